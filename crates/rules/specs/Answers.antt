@@ -1,0 +1,98 @@
+-- The rules page, "Refusal numbers, in order of checking", for each entry, and what each entry gives back and leaves in the lent buffers, for all inputs.
+use Prim.Native.Nat.{ℕ, zero, suc, _%_}
+use mathlib.Core.Bool.{Bool, true, false, not, _||_}
+use mathlib.Core.List.{List, [], _∷_}
+use mathlib.Core.Option.{Option, none, some}
+use lib.ListN.{length}
+use lib.IntN.{ℤ, pos}
+use lib.Dec.{ltb}
+use Rattle.lists.specs.Search.{firstIn, outside}
+use Rattle.rules.specs.Table.{Path, pathsOf, listens}
+use Rattle.rules.specs.Refusals.{Refusal, refusal}
+use Rattle.rules.specs.Report.{Report, report}
+use Rattle.rules.specs.Machine.{Pair, heardFault, step, movement}
+use Rattle.rules.specs.Run.{Tally, pairsIn, run}
+
+-- a refusal where the test holds
+unfoldable pub refusedIf : Bool → ℕ → Option Refusal
+refusedIf true n = some (record { number = n; place = 0 })
+refusedIf false n = none
+
+-- a refusal with the place that was found, if one was
+unfoldable pub refusedAt : Option ℕ → ℕ → Option Refusal
+refusedAt none n = none
+refusedAt (some k) n = some (record { number = n; place = k })
+
+-- "in order of checking"
+unfoldable pub _orElse_ : Option Refusal → Option Refusal → Option Refusal
+none orElse b = b
+(some r) orElse b = some r
+
+infixr 20 _orElse_
+-- "1: a lent rows, ring, state or movement buffer .. has another length"
+unfoldable pub otherLength : {A : Type 0} → ℕ → List A → Bool
+otherLength n buffer = outside n n (length buffer)
+
+-- "13: schedule length odd or above 32,768 bytes"
+unfoldable pub scheduleBad : List ℕ → Bool
+scheduleBad s = outside 0 0 (length s % 2) || ltb 32768 (length s)
+
+-- "14: pair is not a listening pair", with the pair's number
+unfoldable pub firstBadPair : (ℕ → List Path) → List Pair → Option ℕ
+firstBadPair paths s = firstIn (λ i p. not (listens paths (p .listener) (p .speaker))) 0 s
+
+-- "The check uses 1 to 11, the step 1 to 12 and 14 (place 0), the run all."
+unfoldable pub checkRefusal : List ℕ → List ℕ → List ℕ → Option Refusal
+checkRefusal t rows ring = refusedIf (otherLength 1024 rows || otherLength 64 ring) 1 orElse refusal t
+
+unfoldable pub stepRefusal : List ℕ → List ℕ → Pair → Option Refusal
+stepRefusal t heard p =
+    refusedIf (otherLength 4096 heard) 1 orElse refusal t orElse refusedAt (heardFault (pathsOf t) heard) 12 orElse refusedAt (firstBadPair (pathsOf t) (p ∷ [])) 14
+
+unfoldable pub runRefusal : List ℕ → List ℕ → List ℕ → List ℤ → Option Refusal
+runRefusal t heard s sums =
+    refusedIf (otherLength 4096 heard || otherLength 64 sums) 1 orElse refusal t orElse refusedAt (heardFault (pathsOf t) heard) 12 orElse refusedIf (scheduleBad s) 13 orElse refusedAt (firstBadPair (pathsOf t) (pairsIn s)) 14
+
+-- "A refusal's other numbers are 0 and no lent byte changes."
+unfoldable pub unless : {A : Type 0} → Option Refusal → A → A → A
+unless none new old = new
+unless (some r) new old = old
+
+-- "Each answer carries one of three verdicts beside its counts"
+pub data Verdict : Type 0 where
+  complete : Verdict
+  stuck : ℕ → Verdict
+  refused : ℕ → ℕ → Verdict
+
+-- complete, or stuck with the ring's length
+unfoldable pub verdictOf : ℕ → Verdict
+verdictOf zero = complete
+verdictOf (suc n) = stuck (suc n)
+
+-- the verdict of an entry: its refusal, or what it says of an accepted input
+unfoldable pub verdict : Option Refusal → Verdict → Verdict
+verdict none v = v
+verdict (some r) v = refused (r .number) (r .place)
+
+unfoldable pub checkVerdict : List ℕ → List ℕ → List ℕ → Verdict
+checkVerdict t rows ring = verdict (checkRefusal t rows ring) (verdictOf (report t .ringLength))
+
+unfoldable pub rowsAfter : List ℕ → List ℕ → List ℕ → List ℕ
+rowsAfter t rows ring = unless (checkRefusal t rows ring) (report t .rows) rows
+
+unfoldable pub ringAfter : List ℕ → List ℕ → List ℕ → List ℕ
+ringAfter t rows ring = unless (checkRefusal t rows ring) (report t .ring) ring
+
+-- the step's movement, 0 where refused, and the heard state afterwards
+unfoldable pub stepMovement : List ℕ → List ℕ → Pair → ℤ
+stepMovement t heard p = unless (stepRefusal t heard p) (movement (pathsOf t) heard p) (pos 0)
+
+unfoldable pub heardAfterStep : List ℕ → List ℕ → Pair → List ℕ
+heardAfterStep t heard p = unless (stepRefusal t heard p) (step (pathsOf t) heard p) heard
+
+-- the run's tally where it is not refused, and the lent buffers afterwards
+unfoldable pub heardAfterRun : List ℕ → List ℕ → List ℕ → List ℤ → List ℕ
+heardAfterRun t heard s sums = unless (runRefusal t heard s sums) (run (pathsOf t) heard (pairsIn s) .heard) heard
+
+unfoldable pub sumsAfterRun : List ℕ → List ℕ → List ℕ → List ℤ → List ℤ
+sumsAfterRun t heard s sums = unless (runRefusal t heard s sums) (run (pathsOf t) heard (pairsIn s) .sums) sums

@@ -1,0 +1,9 @@
+pub mod Table
+pub mod Refusals
+pub mod Greedy
+pub mod Stable
+pub mod Report
+pub mod Machine
+pub mod Run
+pub mod Answers
+pub mod Examples

@@ -1,0 +1,81 @@
+//! The program: `check`, `reader`, `batch` and `run` on the command line.
+
+use std::env;
+use std::fs::File;
+use std::io::{self, BufReader, BufWriter, Read, Write};
+use std::process::ExitCode;
+
+use second::limits::{
+    HEARD_BYTES, MAX_SCHEDULE_BYTES, MAX_TABLE_BYTES, RING_BYTES, ROWS_BYTES, VERTICES,
+};
+use second::print::{check_text, refusal_text, run_text};
+use second::{batch, Table};
+
+const USAGE: &str = "usage: second check < TABLE
+       second reader < TABLE
+       second batch < CASES
+       second run TABLEFILE SCHEDULEFILE";
+
+fn main() -> ExitCode {
+    let arguments: Vec<String> = env::args().skip(1).collect();
+    let arguments: Vec<&str> = arguments.iter().map(String::as_str).collect();
+    let done = match arguments[..] {
+        ["check"] => check(),
+        ["reader"] => reader(),
+        ["batch"] => batch_cases(),
+        ["run", table, schedule] => run(table, schedule),
+        _ => Err(io::Error::new(io::ErrorKind::InvalidInput, USAGE)),
+    };
+    match done {
+        Ok(()) => ExitCode::SUCCESS,
+        Err(error) => {
+            eprintln!("{error}");
+            ExitCode::from(2)
+        }
+    }
+}
+
+/// Reads one byte past the limit and no more, since that byte is enough to
+/// see that an input is too long ("Refusal numbers, in order of checking").
+fn read_limited(input: impl Read, limit: usize) -> io::Result<Vec<u8>> {
+    let mut bytes = Vec::new();
+    input.take(limit as u64 + 1).read_to_end(&mut bytes)?;
+    Ok(bytes)
+}
+
+fn print(text: &str) -> io::Result<()> {
+    io::stdout().lock().write_all(text.as_bytes())
+}
+
+fn check() -> io::Result<()> {
+    let table = read_limited(io::stdin().lock(), MAX_TABLE_BYTES)?;
+    let mut rows = [0; ROWS_BYTES];
+    let mut ring = [0; RING_BYTES];
+    let answer = second::check(&table, &mut rows, &mut ring);
+    print(&check_text(&answer, &rows, &ring))
+}
+
+fn reader() -> io::Result<()> {
+    let table = read_limited(io::stdin().lock(), MAX_TABLE_BYTES)?;
+    match Table::read(&table) {
+        Ok(_) => print("accepted\n"),
+        Err(refusal) => print(&refusal_text(refusal)),
+    }
+}
+
+fn batch_cases() -> io::Result<()> {
+    let input = BufReader::with_capacity(1 << 16, io::stdin().lock());
+    let output = BufWriter::with_capacity(1 << 16, io::stdout().lock());
+    batch::batch(input, output)
+}
+
+fn run(table_file: &str, schedule_file: &str) -> io::Result<()> {
+    let table = read_limited(File::open(table_file)?, MAX_TABLE_BYTES)?;
+    let schedule = read_limited(File::open(schedule_file)?, MAX_SCHEDULE_BYTES)?;
+    let mut state = [0; HEARD_BYTES];
+    let mut sums = [0; VERTICES];
+    match second::run(&table, &mut state, &schedule, &mut sums) {
+        Ok(numbers) => print(&run_text(&numbers, &sums)),
+        Err(refusal) => print(&refusal_text(refusal)),
+    }
+}
