@@ -2,3 +2,8 @@
 pub mod Search
 pub mod Fill
 pub mod Fold
+-- the laws
+pub mod Tests
+pub mod SearchLaws
+pub mod FillLaws
+pub mod FoldLaws

@@ -1,3 +1,4 @@
+-- The definitions, in the order of the rules page.
 pub mod Table
 pub mod Refusals
 pub mod Greedy
@@ -6,4 +7,7 @@ pub mod Report
 pub mod Machine
 pub mod Run
 pub mod Answers
+-- The worked examples.
 pub mod Examples
+-- The laws.
+pub mod Shape
