@@ -7,3 +7,4 @@ pub mod Tests
 pub mod SearchLaws
 pub mod FillLaws
 pub mod FoldLaws
+pub mod Parts

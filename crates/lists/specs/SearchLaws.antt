@@ -7,7 +7,8 @@ use mathlib.Core.Option.{Option, none, some}
 use Prim.Native.Nat.{ℕ, zero, suc, _+_, _<_, _≤_, max}
 use native.Mathlib.Omega.{arith}
 use native.Mathlib.Nat.{not-suc-le-zero}
-use lib.ListN.{length, getD, drop}
+use native.Mathlib.Numerals.{add-one}
+use lib.ListN.{length, getD, drop, drop-of-length-le}
 use lib.Seq.{drop-cons}
 use lib.Dec.{eqb}
 use borrow.Author.Tests.{eqb-true, eqb-false, eq-eqb, ne-eqb}
@@ -154,6 +155,26 @@ module _ {A : Type 0} (test : A → Bool) where
   pub any-drop : (l : List A) (d : A) (i : ℕ) → i < length l → anyIn test (drop i l) ≡ test (getD l i d) || anyIn test (drop (suc i) l)
   any-drop l d i h = rw (drop-cons l i d h) (any-cons (getD l i d) (drop (suc i) l))
 
+  -- a scan of the list: what a turn at i tells of the rest from i on
+  pub any-hit : (l : List A) (d : A) (i : ℕ) → i < length l → test (getD l i d) ≡ true → anyIn test (drop i l) ≡ true
+  any-hit l d i h e = any-drop l d i h ∙ or-left (test (getD l i d)) (anyIn test (drop (suc i) l)) e
+
+  pub any-next : (l : List A) (d : A) (i : ℕ) → i < length l → test (getD l i d) ≡ false → anyIn test (drop i l) ≡ anyIn test (drop (i + 1) l)
+  any-next l d i h e = any-drop l d i h ∙ rw (e, add-one)
+
+  pub any-end : (l : List A) (i : ℕ) → length l ≤ i → anyIn test (drop i l) ≡ false
+  any-end l i h = rw (drop-of-length-le l h) any-nil
+
+  -- the same, for a scan that has come to i with the answer still to be found from there on
+  pub scan-hit : (l : List A) (d : A) (i : ℕ) → anyIn test (drop i l) ≡ anyIn test l → i < length l → test (getD l i d) ≡ true → true ≡ anyIn test l
+  scan-hit l d i e h q = sym (any-hit l d i h q) ∙ e
+
+  pub scan-next : (l : List A) (d : A) (i : ℕ) → anyIn test (drop i l) ≡ anyIn test l → i < length l → test (getD l i d) ≡ false → anyIn test (drop (i + 1) l) ≡ anyIn test l
+  scan-next l d i e h q = sym (any-next l d i h q) ∙ e
+
+  pub scan-end : (l : List A) (i : ℕ) → anyIn test (drop i l) ≡ anyIn test l → length l ≤ i → false ≡ anyIn test l
+  scan-end l i e h = sym (any-end l i h) ∙ e
+
   pub any-at : (l : List A) (d : A) (k : ℕ) → k < length l → test (getD l k d) ≡ true → anyIn test l ≡ true
   any-at [] d k h e = absurd (not-suc-le-zero h)
   any-at (x ∷ xs) d zero h e = any-cons x xs ∙ or-left (test x) (anyIn test xs) e
@@ -238,3 +259,27 @@ differ a b f = by-test (same a b) (λ q. absurd (f (same-eq a b q))) (λ q. q)
 
 pub differs : (a b : List ℕ) → same a b ≡ false → a ≡ b → ⊥
 differs a b e q = true≢ (rw q (same-refl b)) e
+
+-- two lists of different lengths differ; of equal lengths, a comparison that has come to i goes on with the elements there
+pub same-lengths : (a b : List ℕ) → (length a ≡ length b → ⊥) → same a b ≡ false
+same-lengths a b f = differ a b (λ e. f (ap length e))
+
+same-cons : (x y : ℕ) (xs ys : List ℕ) → x ≡ y → same (x ∷ xs) (y ∷ ys) ≡ same xs ys
+unfolding same
+same-cons x y xs ys e = rw (eq-eqb x y e, same)
+
+same-heads : (x y : ℕ) (xs ys : List ℕ) → (x ≡ y → ⊥) → same (x ∷ xs) (y ∷ ys) ≡ false
+unfolding same
+same-heads x y xs ys f = rw (ne-eqb x y f, same)
+
+module _ (a b : List ℕ) (i : ℕ) (come : same (drop i a) (drop i b) ≡ same a b) (long : length a ≡ length b) where
+  pub same-hit : i < length a → (getD a i 0 ≡ getD b i 0 → ⊥) → false ≡ same a b
+  same-hit h f =
+      sym (same-heads (getD a i 0) (getD b i 0) (drop (suc i) a) (drop (suc i) b) f) ∙ rw (← (drop-cons a i 0 h), ← (drop-cons b i 0 (rw long at h))) come
+
+  pub same-next : i < length a → getD a i 0 ≡ getD b i 0 → same (drop (i + 1) a) (drop (i + 1) b) ≡ same a b
+  same-next h e =
+      rw add-one (sym (same-cons (getD a i 0) (getD b i 0) (drop (suc i) a) (drop (suc i) b) e) ∙ rw (← (drop-cons a i 0 h), ← (drop-cons b i 0 (rw long at h))) come)
+
+  pub same-end : length a ≤ i → true ≡ same a b
+  same-end h = sym (same-refl []) ∙ rw (drop-of-length-le a h, drop-of-length-le b (rw long at h)) at come

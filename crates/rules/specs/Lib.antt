@@ -11,3 +11,4 @@ pub mod Answers
 pub mod Examples
 -- The laws.
 pub mod Shape
+pub mod TableLaws

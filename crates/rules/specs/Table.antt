@@ -5,6 +5,7 @@ use mathlib.Core.List.{List, [], _∷_, map}
 use lib.ListN.{length, getD, take, drop}
 use lib.Dec.{eqb}
 use Rattle.lists.specs.Search.{anyBelow, anyIn, elem, maxBelow, thoseBelow}
+use Rattle.lists.specs.Fill.{padded, tabulate}
 
 -- A path is its vertices, owner first, destination last; [] stands for "no path".
 abbrev pub Path : Type 0
@@ -48,9 +49,16 @@ ownerAt t i = ownerOf (recordAt t i)
 unfoldable pub owned : List ℕ → ℕ → ℕ → List ℕ
 owned t n v = thoseBelow (λ i. eqb (ownerAt t i) v) n
 
--- "One record is one permitted path": the permitted paths of v, best first.
+-- "One record is one permitted path": the paths of those records, and the permitted paths of v, best first.
+unfoldable pub pathsBelow : List ℕ → ℕ → ℕ → List Path
+pathsBelow t n v = map (pathAt t) (owned t n v)
+
 unfoldable pub pathsOf : List ℕ → ℕ → List Path
-pathsOf t v = map (pathAt t) (owned t (records t) v)
+pathsOf t = pathsBelow t (records t)
+
+-- "At most 1,008 records .. a record is found through 16 best-first slots for each of the 64 vertices"; 65,535 marks an empty slot
+unfoldable pub slotsOf : List ℕ → ℕ → List (List ℕ)
+slotsOf t n = tabulate (λ v. padded 16 65535 (owned t n v)) 64
 
 -- "Vertex 0 is always present. Another vertex is present if any record names it, even if it owns none."
 unfoldable pub present : List ℕ → ℕ → Bool

@@ -1,0 +1,224 @@
+-- Laws of the refusals: what a record without fault keeps to, and that the records of one owner stand in one block.
+use mathlib.Core.Path.{_≡_, refl, sym, ap, _∙_, subst}
+use mathlib.Core.Bool.{Bool, true, false, not, _||_}
+use mathlib.Core.List.{List, [], _∷_, _++_}
+use mathlib.Core.Option.{Option, none, some}
+use Prim.Native.Nat.{ℕ, zero, suc, _+_, _-_, _*_, _/_, _<_, _≤_, min}
+use native.Mathlib.Omega.{arith}
+use native.Mathlib.Nat.{not-suc-le-zero}
+use native.Mathlib.Numerals.{add-one}
+use lib.ListN.{length, getD, take, drop, drop-of-length-le, length-take, length-drop}
+use lib.Seq.{drop-cons, getD-take, getD-drop, take-all}
+use lib.Dec.{eqb, ltb}
+use borrow.Author.Tests.{eqb-true, eqb-false, eq-eqb, ne-eqb, ltb-true, ltb-false, lt-ltb, le-ltb}
+use Rattle.lists.specs.Search.{anyBelow, anyIn, elem, firstFrom, outside, same}
+use Rattle.lists.specs.Tests.{true≢, by-test, or-false, or-left, inside, not-false, neither}
+use Rattle.lists.specs.SearchLaws.{first-none, elem-cons, none-below, differ}
+use Rattle.lists.specs.Parts.{part-to-end}
+use Rattle.rules.specs.Table.{Path, records, recordAt, rankOf, hopsOf, pathOf, ownerOf, rankAt, hopsAt, pathAt, ownerAt}
+use Rattle.rules.specs.Refusals.{Refusal, Rule, unusedOf, rule, inRecord, recordRules, firstBroken, fault, firstBad, tooLong, ragged, refusal, hopsBad, vertexBad, fillerBad, twice, twiceBad, lastBad, ownerBad, rankDue, rankBad, pathBad}
+
+-- a vertex twice, in a scan that has come to i
+
+twice-drop : (p : Path) (i : ℕ) → i < length p → twice (drop i p) ≡ elem (getD p i 0) (drop (suc i) p) || twice (drop (suc i) p)
+unfolding twice
+twice-drop p i h = rw (drop-cons p i 0 h)
+
+module _ (p : Path) (i : ℕ) (come : twice (drop i p) ≡ twice p) (h : i < length p) (b : Bool) (look : b ≡ elem (getD p i 0) (take (length p - (i + 1)) (drop (i + 1) p))) where
+  seen-later : elem (getD p i 0) (drop (suc i) p) ≡ b
+  seen-later = rw (← add-one, ← part-to-end) (sym look)
+
+  pub twice-hit : b ≡ true → true ≡ twice p
+  twice-hit e = sym (or-left (elem (getD p i 0) (drop (suc i) p)) (twice (drop (suc i) p)) (seen-later ∙ e)) ∙ sym (twice-drop p i h) ∙ come
+
+  pub twice-next : b ≡ false → twice (drop (i + 1) p) ≡ twice p
+  twice-next e = rw add-one (sym (twice-drop p i h ∙ rw (seen-later ∙ e)) ∙ come)
+
+pub twice-end : (p : Path) (i : ℕ) → twice (drop i p) ≡ twice p → length p ≤ i → false ≡ twice p
+unfolding twice
+twice-end p i come h = rw (drop-of-length-le p h) at come
+
+-- the rules in order
+
+module _ (t : List ℕ) (i : ℕ) where
+  pub rule-broken : (r : Rule) (rs : List Rule) → r .broken t i ≡ true → firstBroken (r ∷ rs) t i ≡ r .number
+  unfolding firstBroken
+  rule-broken r rs e = rw (e, firstBroken)
+
+  pub rule-kept : (r : Rule) (rs : List Rule) → r .broken t i ≡ false → firstBroken (r ∷ rs) t i ≡ firstBroken rs t i
+  unfolding firstBroken
+  rule-kept r rs e = rw (e, firstBroken)
+
+  rule-passed : (r : Rule) (rs : List Rule) → (r .number ≡ 0 → ⊥) → firstBroken (r ∷ rs) t i ≡ 0 → (r .broken t i ≡ false) × (firstBroken rs t i ≡ 0)
+  rule-passed r rs f e =
+      by-test (r .broken t i) (λ q. absurd (f (sym (rule-broken r rs q) ∙ e))) (λ q. (q, sym (rule-kept r rs q) ∙ e))
+
+  -- a record that keeps all the rules
+  pub record Kept : Type 0 where
+    pub hops : hopsBad (recordAt t i) ≡ false
+    pub vertices : vertexBad (recordAt t i) ≡ false
+    pub filler : fillerBad (recordAt t i) ≡ false
+    pub once : twiceBad (recordAt t i) ≡ false
+    pub last : lastBad (recordAt t i) ≡ false
+    pub owner : ownerBad t i ≡ false
+    pub rank : rankBad t i ≡ false
+    pub path : pathBad t i ≡ false
+
+  pub no-fault : fault t i ≡ 0 → Kept
+  unfolding fault recordRules rule inRecord
+  no-fault e =
+      let a = rule-passed _ _ (omega arith) e in
+      let b = rule-passed _ _ (omega arith) (a .1) in
+      let c = rule-passed _ _ (omega arith) (b .1) in
+      let d = rule-passed _ _ (omega arith) (c .1) in
+      let f = rule-passed _ _ (omega arith) (d .1) in
+      let g = rule-passed _ _ (omega arith) (f .1) in
+      let h = rule-passed _ _ (omega arith) (g .1) in
+      let k = rule-passed _ _ (omega arith) (h .1) in
+      record { hops = a .0; vertices = b .0; filler = c .0; once = d .0; last = f .0; owner = g .0; rank = h .0; path = k .0 }
+
+-- the records below n keep the rules on owners and ranks
+pub record Orderly (t : List ℕ) (n : ℕ) : Type 0 where
+  pub owners : (j : ℕ) → j < n → ownerBad t j ≡ false
+  pub ranks : (j : ℕ) → j < n → rankBad t j ≡ false
+
+pub orderly-none : (t : List ℕ) → Orderly t 0
+orderly-none t = record { owners = λ j h. absurd (not-suc-le-zero h); ranks = λ j h. absurd (not-suc-le-zero h) }
+
+pub orderly-more : (t : List ℕ) (n : ℕ) → Orderly t n → ownerBad t n ≡ false → rankBad t n ≡ false → Orderly t (n + 1)
+orderly-more t n o p q =
+    record { owners = λ j h. by-test (eqb j n) (λ e. let k : j ≡ n = eqb-true j n e in rw k p) (λ e. o .owners j (omega (arith, eqb-false j n e))); ranks = λ j h. by-test (eqb j n) (λ e. let k : j ≡ n = eqb-true j n e in rw k q) (λ e. o .ranks j (omega (arith, eqb-false j n e))) }
+
+module _ (t : List ℕ) (n : ℕ) (orderly : Orderly t n) where
+  owner-step : (j : ℕ) → suc j < n → ownerAt t j ≤ ownerAt t (suc j)
+  unfolding ownerBad
+  owner-step j h = ltb-false (ownerAt t (suc j)) (ownerAt t j) (orderly .owners (suc j) h)
+
+  -- owners rise through the table
+  pub owners-rise : (i j : ℕ) → i ≤ j → j < n → ownerAt t i ≤ ownerAt t j
+  owners-rise i zero le h = let e : i ≡ 0 = omega arith in rw e (omega arith)
+  owners-rise i (suc j) le h =
+      by-test (eqb i (suc j)) (λ q. let e : i ≡ suc j = eqb-true i (suc j) q in rw e (omega arith))
+      (λ q. omega (arith, owner-step j h, owners-rise i j (omega (arith, eqb-false i (suc j) q)) (omega arith)))
+
+  rank-kept : (j : ℕ) → j < n → (rankAt t j ≤ 16) × (rankAt t j ≡ rankDue t j)
+  unfolding rankBad
+  rank-kept j h =
+      let r = or-false (ltb 16 (rankAt t j)) (not (eqb (rankAt t j) (rankDue t j))) (orderly .ranks j h) in
+      (ltb-false 16 (rankAt t j) (r .0), eqb-true (rankAt t j) (rankDue t j) (not-false _ (r .1)))
+
+  rank-same : (j : ℕ) → suc j < n → ownerAt t (suc j) ≡ ownerAt t j → rankAt t (suc j) ≡ suc (rankAt t j)
+  unfolding rankDue
+  rank-same j h e = rank-kept (suc j) h .1 ∙ rw (eq-eqb (ownerAt t (suc j)) (ownerAt t j) e, rankDue)
+
+  rank-new : (j : ℕ) → suc j < n → (ownerAt t (suc j) ≡ ownerAt t j → ⊥) → rankAt t (suc j) ≡ 1
+  unfolding rankDue
+  rank-new j h f = rank-kept (suc j) h .1 ∙ rw (ne-eqb (ownerAt t (suc j)) (ownerAt t j) f, rankDue)
+
+  rank-first : 0 < n → rankAt t 0 ≡ 1
+  unfolding rankDue
+  rank-first h = rank-kept 0 h .1
+
+  -- what the rank of record j says of the records before it: so many are its owner's, and those before have lower owners
+  pub record Block (j : ℕ) : Type 0 where
+    pub least : 1 ≤ rankAt t j
+    pub most : rankAt t j ≤ 16
+    pub fits : rankAt t j ≤ suc j
+    pub inside : (i : ℕ) → suc j ≤ i + rankAt t j → i ≤ j → ownerAt t i ≡ ownerAt t j
+    pub before : (i : ℕ) → i + rankAt t j ≤ j → ownerAt t i < ownerAt t j
+
+  pub block : (j : ℕ) → j < n → Block j
+  block zero h =
+      let e = rank-first h in
+      record { least = omega arith; most = omega arith; fits = omega arith; inside = λ i lo hi. (let k : i ≡ 0 = omega arith in ap (ownerAt t) k); before = λ i lo. absurd (omega arith) }
+  block (suc j) h =
+      by-test (eqb (ownerAt t (suc j)) (ownerAt t j))
+      (λ q. let b = block j (omega arith) in let o = eqb-true (ownerAt t (suc j)) (ownerAt t j) q in let e = rank-same j h o in same-owner j h b o e)
+      (λ q. let o = eqb-false (ownerAt t (suc j)) (ownerAt t j) q in let e = rank-new j h o in
+      record { least = omega arith; most = omega arith; fits = omega arith; inside = λ i lo hi. (let k : i ≡ suc j = omega arith in ap (ownerAt t) k); before = λ i lo. omega (arith, o, owner-step j h, owners-rise i j (omega arith) (omega arith)) })
+    where
+      same-owner : (j : ℕ) → suc j < n → Block j → ownerAt t (suc j) ≡ ownerAt t j → rankAt t (suc j) ≡ suc (rankAt t j) → Block (suc j)
+      same-owner j h b o e =
+          record { least = omega arith; most = rank-kept (suc j) h .0; fits = omega (arith, b .fits); inside = λ i lo hi. by-test (eqb i (suc j)) (λ q. ap (ownerAt t) (eqb-true i (suc j) q)) (λ q. b .inside i (omega arith) (omega (arith, eqb-false i (suc j) q)) ∙ sym o); before = λ i lo. omega (arith, b .before i (omega arith)) }
+
+-- a path begins with its owner
+pub path-owner : (r : List ℕ) → getD (pathOf r) 0 0 ≡ ownerOf r
+unfolding pathOf ownerOf
+path-owner r = getD-take (suc (hopsOf r)) (drop 2 r) 0 0 (omega arith) ∙ getD-drop 2 r 0 0
+
+-- records before the owner's block have other paths
+pub others-differ : (t : List ℕ) (i j : ℕ) → Orderly t (i + 1) → j + rankAt t i ≤ i → same (pathAt t j) (pathAt t i) ≡ false
+others-differ t i j o h =
+    differ (pathAt t j) (pathAt t i)
+    (λ e. let k : ownerAt t j ≡ ownerAt t i = sym (path-owner (recordAt t j)) ∙ ap (λ (p : Path). getD p 0 0) e ∙ path-owner (recordAt t i) in omega (arith, block t (i + 1) o i (omega arith) .before j h))
+
+-- a record has 16 bytes
+pub record-length : (t : List ℕ) (i : ℕ) → i < records t → length (recordAt t i) ≡ 16
+unfolding records recordAt
+record-length t i h = length-take 16 (drop (16 * i) t) ∙ omega (arith, length-drop (16 * i) t)
+
+pub record-part : (t : List ℕ) (i : ℕ) → take (i * 16 + 16 - i * 16) (drop (i * 16) t) ≡ recordAt t i
+unfolding recordAt
+record-part t i =
+    let n : i * 16 + 16 - i * 16 ≡ 16 = omega arith in
+    let at : i * 16 ≡ 16 * i = omega arith in
+    rw (n, at)
+
+-- its path ends with the record at the latest
+pub path-part : (r : List ℕ) → length r ≡ 16 → take (min (3 + hopsOf r) 16 - 2) (drop 2 r) ≡ pathOf r
+unfolding pathOf
+path-part r e =
+    by-test (ltb 16 (3 + hopsOf r))
+    (λ q. let l = ltb-true 16 (3 + hopsOf r) q in let k = length-drop 2 r in take-all (min (3 + hopsOf r) 16 - 2) (drop 2 r) (omega arith) ∙ sym (take-all (suc (hopsOf r)) (drop 2 r) (omega arith)))
+    (λ q. let l = ltb-false 16 (3 + hopsOf r) q in let k : min (3 + hopsOf r) 16 - 2 ≡ suc (hopsOf r) = omega arith in rw k)
+
+-- its unused bytes, as the part from behind the path to byte 14
+pub unused-part : (r : List ℕ) (h : ℕ) → h ≡ hopsOf r → take (15 - (h + 3)) (drop (h + 3) r) ≡ unusedOf r
+unfolding unusedOf
+unused-part r h e =
+    let k : 15 - (h + 3) ≡ 12 - hopsOf r = omega arith in
+    let l : h + 3 ≡ 3 + hopsOf r = omega arith in
+    rw (k, l)
+
+-- the rules that look at the record before, where there is one
+
+pub owner-bad-later : (t : List ℕ) (i : ℕ) → (i ≡ 0 → ⊥) → ownerBad t i ≡ ltb (ownerAt t i) (ownerAt t (i - 1))
+unfolding ownerBad
+owner-bad-later t zero f = absurd (f refl)
+owner-bad-later t (suc i) f = let e : suc i - 1 ≡ i = omega arith in rw e
+
+pub rank-due-new : (t : List ℕ) (i : ℕ) → (i ≡ 0 → ⊥) → (ownerAt t i ≡ ownerAt t (i - 1) → ⊥) → rankDue t i ≡ 1
+unfolding rankDue
+rank-due-new t zero f g = absurd (f refl)
+rank-due-new t (suc i) f g =
+    let e : suc i - 1 ≡ i = omega arith in
+    rw (ne-eqb (ownerAt t (suc i)) (ownerAt t i) (λ q. g (q ∙ ap (ownerAt t) (sym e))), rankDue)
+
+pub rank-due-same : (t : List ℕ) (i : ℕ) → (i ≡ 0 → ⊥) → ownerAt t i ≡ ownerAt t (i - 1) → rankDue t i ≡ rankAt t (i - 1) + 1
+unfolding rankDue
+rank-due-same t zero f g = absurd (f refl)
+rank-due-same t (suc i) f g =
+    let e : suc i - 1 ≡ i = omega arith in
+    rw (eq-eqb (ownerAt t (suc i)) (ownerAt t i) (g ∙ ap (ownerAt t) e), rankDue) (rw e (sym (add-one (rankAt t i))))
+
+-- the tests of 6 and 10, from what was read of the record
+module _ (r R : List ℕ) (h : ℕ) (b : Bool) (e : r ≡ R) (k : h ≡ hopsOf R) (look : b ≡ anyIn (outside 255 255) (take (15 - (h + 3)) (drop (h + 3) r))) where
+  unused-seen : anyIn (outside 255 255) (unusedOf R) ≡ b
+  unused-seen = rw (← (unused-part R h k), ← e) (sym look)
+
+  pub filler-hit : b ≡ true → true ≡ fillerBad R
+  unfolding fillerBad
+  filler-hit q = sym (or-left (anyIn (outside 255 255) (unusedOf R)) (outside 0 0 (getD R 15 0)) (unused-seen ∙ q))
+
+  pub filler-rest : (x : Bool) → b ≡ false → x ≡ outside 0 0 (getD r 15 0) → x ≡ fillerBad R
+  unfolding fillerBad
+  filler-rest x q g = g ∙ rw (unused-seen ∙ q, e)
+
+module _ (t : List ℕ) (i x : ℕ) (e : x ≡ rankAt t i) where
+  pub rank-high : 16 < x → true ≡ rankBad t i
+  unfolding rankBad
+  rank-high h = sym (or-left (ltb 16 (rankAt t i)) _ (lt-ltb 16 (rankAt t i) (rw e at h)))
+
+  pub rank-other : (y : ℕ) → x ≤ 16 → y ≡ rankDue t i → not (eqb x y) ≡ rankBad t i
+  unfolding rankBad
+  rank-other y h q = rw (e, q, le-ltb 16 (rankAt t i) (rw e at h))
