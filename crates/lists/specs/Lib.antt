@@ -8,3 +8,4 @@ pub mod SearchLaws
 pub mod FillLaws
 pub mod FoldLaws
 pub mod Parts
+pub mod PlaceLaws

@@ -12,3 +12,6 @@ pub mod Examples
 -- The laws.
 pub mod Shape
 pub mod TableLaws
+pub mod PathLaws
+pub mod MachineLaws
+pub mod RunLaws

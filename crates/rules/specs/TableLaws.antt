@@ -13,7 +13,7 @@ use lib.Dec.{eqb, ltb}
 use borrow.Author.Tests.{eqb-true, eqb-false, eq-eqb, ne-eqb, ltb-true, ltb-false, lt-ltb, le-ltb}
 use Rattle.lists.specs.Search.{anyBelow, anyIn, elem, firstFrom, outside, same}
 use Rattle.lists.specs.Tests.{true≢, by-test, or-false, or-left, inside, not-false, neither}
-use Rattle.lists.specs.SearchLaws.{first-none, elem-cons, none-below, differ}
+use Rattle.lists.specs.SearchLaws.{first-none, elem-cons, none-below, differ, all-fail, any-below, any-below-suc}
 use Rattle.lists.specs.Parts.{part-to-end}
 use Rattle.rules.specs.Table.{Path, records, recordAt, rankOf, hopsOf, pathOf, ownerOf, rankAt, hopsAt, pathAt, ownerAt}
 use Rattle.rules.specs.Refusals.{Refusal, Rule, unusedOf, rule, inRecord, recordRules, firstBroken, fault, firstBad, tooLong, ragged, refusal, hopsBad, vertexBad, fillerBad, twice, twiceBad, lastBad, ownerBad, rankDue, rankBad, pathBad}
@@ -53,6 +53,20 @@ module _ (t : List ℕ) (i : ℕ) where
   rule-passed r rs f e =
       by-test (r .broken t i) (λ q. absurd (f (sym (rule-broken r rs q) ∙ e))) (λ q. (q, sym (rule-kept r rs q) ∙ e))
 
+  -- a walk through the rules that has passed the first k
+  abbrev pub Past : ℕ → Type 0
+  Past k = fault t i ≡ firstBroken (drop k recordRules) t i
+
+  pub past-none : Past 0
+  unfolding fault
+  past-none = refl
+
+  pub past-more : (k : ℕ) (r : Rule) (b : Bool) → drop k recordRules ≡ r ∷ drop (suc k) recordRules → Past k → b ≡ r .broken t i → b ≡ false → Past (suc k)
+  past-more k r b e come look q = come ∙ rw e (rule-kept r (drop (suc k) recordRules) (sym look ∙ q))
+
+  pub past-stop : (k : ℕ) (r : Rule) (b : Bool) → drop k recordRules ≡ r ∷ drop (suc k) recordRules → Past k → b ≡ r .broken t i → b ≡ true → r .number ≡ fault t i
+  past-stop k r b e come look q = sym (come ∙ rw e (rule-broken r (drop (suc k) recordRules) (sym look ∙ q)))
+
   -- a record that keeps all the rules
   pub record Kept : Type 0 where
     pub hops : hopsBad (recordAt t i) ≡ false
@@ -76,6 +90,10 @@ module _ (t : List ℕ) (i : ℕ) where
       let h = rule-passed _ _ (omega arith) (g .1) in
       let k = rule-passed _ _ (omega arith) (h .1) in
       record { hops = a .0; vertices = b .0; filler = c .0; once = d .0; last = f .0; owner = g .0; rank = h .0; path = k .0 }
+
+pub hops-small : (t : List ℕ) (i : ℕ) (b : Bool) → b ≡ hopsBad (recordAt t i) → b ≡ false → hopsAt t i ≤ 12
+unfolding hopsBad
+hops-small t i b e q = inside 1 12 (hopsAt t i) (sym e ∙ q) .1
 
 -- the records below n keep the rules on owners and ranks
 pub record Orderly (t : List ℕ) (n : ℕ) : Type 0 where
@@ -222,3 +240,27 @@ module _ (t : List ℕ) (i x : ℕ) (e : x ≡ rankAt t i) where
   pub rank-other : (y : ℕ) → x ≤ 16 → y ≡ rankDue t i → not (eqb x y) ≡ rankBad t i
   unfolding rankBad
   rank-other y h q = rw (e, q, le-ltb 16 (rankAt t i) (rw e at h))
+
+-- the search of 11 through the owner's block
+module _ (t : List ℕ) (i : ℕ) where
+  abbrev pub samePath : ℕ → Bool
+  samePath j = same (pathAt t j) (pathAt t i)
+
+  module _ (o : Orderly t (i + 1)) (x : ℕ) (e : x ≡ rankAt t i) where
+    pub block-fits : (1 ≤ x) × (x ≤ i + 1)
+    block-fits = let b = block t (i + 1) o i (omega arith) in (omega (arith, b .least), omega (arith, b .fits))
+
+    pub block-start : anyBelow samePath (i + 1 - x) ≡ false
+    block-start = all-fail samePath (i + 1 - x) (λ j h. others-differ t i j o (omega arith))
+
+  module _ (j : ℕ) (come : anyBelow samePath j ≡ false) (b : Bool) where
+    pub path-hit : (p q : Path) → p ≡ pathAt t j → q ≡ pathAt t i → b ≡ same p q → j < i → b ≡ true → true ≡ pathBad t i
+    unfolding pathBad
+    path-hit p q e f g h k = sym (any-below samePath i j h (rw (← e, ← f) (sym g ∙ k)))
+
+    pub path-next : (p q : Path) → p ≡ pathAt t j → q ≡ pathAt t i → b ≡ same p q → b ≡ false → anyBelow samePath (j + 1) ≡ false
+    path-next p q e f g k = rw add-one (any-below-suc samePath j ∙ neither (anyBelow samePath j) (samePath j) come (rw (← e, ← f) (sym g ∙ k)))
+
+  pub path-end : (j : ℕ) → anyBelow samePath j ≡ false → j ≤ i → i ≤ j → false ≡ pathBad t i
+  unfolding pathBad
+  path-end j come h k = let e : j ≡ i = omega arith in sym (rw e at come)

@@ -1,103 +1,137 @@
-use borrow.Author.Needs.{needs}
+-- `reader::fault_of` meets its contract: the tests stand in the order of the rules.
+-- Assumes nothing.
+use mathlib.Core.Path.{refl, sym, _∙_}
+use Prim.Native.Nat.{ℕ}
+use Rattle.rules.specs.Refusals.{recordRules, rule, inRecord, firstBroken}
+use Rattle.rules.specs.TableLaws.{Past, past-none, past-more, past-stop, hops-small, orderly-more}
 use Rattle.reader.proofs.fault_of.Statement.{statement}
 use Rattle.reader.proofs.fault_of.Tie as tie
-use Rattle.reader.proofs.fault_of.Reads as reads
-use Rattle.reader.proofs.fault_of.Lts as lts
-use Rattle.reader.proofs.filler_bad.Reads as filler-bad-reads
-use Rattle.reader.proofs.hops_bad.Reads as hops-bad-reads
-use Rattle.reader.proofs.last_bad.Reads as last-bad-reads
-use Rattle.reader.proofs.owner_bad.Reads as owner-bad-reads
-use Rattle.reader.proofs.path_bad.Reads as path-bad-reads
-use Rattle.reader.proofs.rank_bad.Reads as rank-bad-reads
-use Rattle.reader.proofs.twice_bad.Reads as twice-bad-reads
-use Rattle.reader.proofs.vertex_bad.Reads as vertex-bad-reads
 
--- src/lib.rt:242:8
+-- where a walk stands that has passed the first k rules at this place
+abbrev PastAt : tie.Start → ℕ → Type 0
+PastAt s k = Past (s .args .t .now) (s .args .i) k
+
+abbrev start1 : tie.Else1 → tie.Start
+start1 c = c .before .before .before
+
+past1 : (c : tie.Else1) → PastAt (start1 c) 1
+unfolding recordRules rule inRecord
+past1 c = past-more _ _ 0 _ _ refl (past-none _ _) (c .before .hops-bad .ensures) (c .if1 .left)
+
+abbrev start2 : tie.Else2 → tie.Start
+start2 c = start1 (c .before .before)
+
+past2 : (c : tie.Else2) → PastAt (start2 c) 2
+unfolding recordRules rule inRecord
+past2 c = past-more _ _ 1 _ _ refl (past1 (c .before .before)) (c .before .vertex-bad .ensures) (c .if2 .left)
+
+abbrev start3 : tie.Else3 → tie.Start
+start3 c = start2 (c .before .before)
+
+past3 : (c : tie.Else3) → PastAt (start3 c) 3
+unfolding recordRules rule inRecord
+past3 c = past-more _ _ 2 _ _ refl (past2 (c .before .before)) (c .before .filler-bad .ensures) (c .if3 .left)
+
+abbrev start4 : tie.Else4 → tie.Start
+start4 c = start3 (c .before .before)
+
+past4 : (c : tie.Else4) → PastAt (start4 c) 4
+unfolding recordRules rule inRecord
+past4 c = past-more _ _ 3 _ _ refl (past3 (c .before .before)) (c .before .twice-bad .ensures) (c .if4 .left)
+
+abbrev start5 : tie.Else5 → tie.Start
+start5 c = start4 (c .before .before)
+
+past5 : (c : tie.Else5) → PastAt (start5 c) 5
+unfolding recordRules rule inRecord
+past5 c = past-more _ _ 4 _ _ refl (past4 (c .before .before)) (c .before .last-bad .ensures) (c .if5 .left)
+
+abbrev start6 : tie.Else6 → tie.Start
+start6 c = start5 (c .before .before)
+
+past6 : (c : tie.Else6) → PastAt (start6 c) 6
+unfolding recordRules rule inRecord
+past6 c = past-more _ _ 5 _ _ refl (past5 (c .before .before)) (c .before .owner-bad .ensures) (c .if6 .left)
+
+abbrev start7 : tie.Else7 → tie.Start
+start7 c = start6 (c .before .before)
+
+past7 : (c : tie.Else7) → PastAt (start7 c) 7
+unfolding recordRules rule inRecord
+past7 c = past-more _ _ 6 _ _ refl (past6 (c .before .before)) (c .before .rank-bad .ensures) (c .if7 .left)
+
+abbrev start8 : tie.Else8 → tie.Start
+start8 c = start7 (c .before .before)
+
+past8 : (c : tie.Else8) → PastAt (start8 c) 8
+unfolding recordRules rule inRecord
+past8 c = past-more _ _ 7 _ _ refl (past7 (c .before .before)) (c .before .path-bad .ensures) (c .if8 .left)
+
 hops-bad-requires : tie.Need-hops-bad-requires
-hops-bad-requires c κs = search needs
+hops-bad-requires c κs = c .before .pre .0
 
--- src/lib.rt:243:9
 returns : tie.Need-returns
-returns c = ?
+unfolding recordRules rule inRecord
+returns c = past-stop _ _ 0 _ _ refl (past-none _ _) (c .before .hops-bad .ensures) (c .if1 .taken)
 
--- src/lib.rt:245:8
 vertex-bad-requires : tie.Need-vertex-bad-requires
-vertex-bad-requires c κs = search needs
+vertex-bad-requires c κs = start1 c .pre .0
 
--- src/lib.rt:246:9
 returns-2 : tie.Need-returns-2
-returns-2 c = ?
+unfolding recordRules rule inRecord
+returns-2 c = past-stop _ _ 1 _ _ refl (past1 (c .before .before)) (c .before .vertex-bad .ensures) (c .if2 .taken)
 
--- src/lib.rt:248:8
 filler-bad-requires : tie.Need-filler-bad-requires
-filler-bad-requires c κs = ?
+filler-bad-requires c κs = (start2 c .pre .0, hops-small _ _ _ (c .before .before .before .hops-bad .ensures) (c .before .before .if1 .left))
 
--- src/lib.rt:249:9
 returns-3 : tie.Need-returns-3
-returns-3 c = ?
+unfolding recordRules rule inRecord
+returns-3 c = past-stop _ _ 2 _ _ refl (past2 (c .before .before)) (c .before .filler-bad .ensures) (c .if3 .taken)
 
--- src/lib.rt:251:8
 twice-bad-requires : tie.Need-twice-bad-requires
-twice-bad-requires c κs = search needs
+twice-bad-requires c κs = start3 c .pre .0
 
--- src/lib.rt:252:9
 returns-4 : tie.Need-returns-4
-returns-4 c = ?
+unfolding recordRules rule inRecord
+returns-4 c = past-stop _ _ 3 _ _ refl (past3 (c .before .before)) (c .before .twice-bad .ensures) (c .if4 .taken)
 
--- src/lib.rt:254:8
 last-bad-requires : tie.Need-last-bad-requires
-last-bad-requires c κs = ?
+last-bad-requires c κs =
+    let k = c .before .before .before .before .before .before in
+    (start4 c .pre .0, hops-small _ _ _ (k .before .hops-bad .ensures) (k .if1 .left))
 
--- src/lib.rt:255:9
 returns-5 : tie.Need-returns-5
-returns-5 c = ?
+unfolding recordRules rule inRecord
+returns-5 c = past-stop _ _ 4 _ _ refl (past4 (c .before .before)) (c .before .last-bad .ensures) (c .if5 .taken)
 
--- src/lib.rt:257:8
 owner-bad-requires : tie.Need-owner-bad-requires
-owner-bad-requires c κs = search needs
+owner-bad-requires c κs = start5 c .pre .0
 
--- src/lib.rt:258:9
 returns-6 : tie.Need-returns-6
-returns-6 c = ?
+unfolding recordRules rule inRecord
+returns-6 c = past-stop _ _ 5 _ _ refl (past5 (c .before .before)) (c .before .owner-bad .ensures) (c .if6 .taken)
 
--- src/lib.rt:260:8
 rank-bad-requires : tie.Need-rank-bad-requires
-rank-bad-requires c κs = search needs
+rank-bad-requires c κs = start6 c .pre .0
 
--- src/lib.rt:261:9
 returns-7 : tie.Need-returns-7
-returns-7 c = ?
+unfolding recordRules rule inRecord
+returns-7 c = past-stop _ _ 6 _ _ refl (past6 (c .before .before)) (c .before .rank-bad .ensures) (c .if7 .taken)
 
--- src/lib.rt:263:8
 path-bad-requires : tie.Need-path-bad-requires
-path-bad-requires c κs = ?
+path-bad-requires c κs =
+    let k = c .before .before in
+    (start7 c .pre .0, orderly-more _ _ (start7 c .pre .1) (sym (k .before .owner-bad .ensures) ∙ k .if6 .left) (sym (c .before .rank-bad .ensures) ∙ c .if7 .left))
 
--- src/lib.rt:264:9
 returns-8 : tie.Need-returns-8
-returns-8 c = ?
+unfolding recordRules rule inRecord
+returns-8 c = past-stop _ _ 7 _ _ refl (past7 (c .before .before)) (c .before .path-bad .ensures) (c .if8 .taken)
 
--- src/lib.rt:238:1
 returns-9 : tie.Need-returns-9
-returns-9 c = ?
+unfolding recordRules rule firstBroken
+returns-9 c = sym (past8 c)
 
 pub fault-of-spec : {M : Type 1} → statement M
 fault-of-spec =
     tie.close
-    (tie.spec
-    hops-bad-requires
-    returns
-    vertex-bad-requires
-    returns-2
-    filler-bad-requires
-    returns-3
-    twice-bad-requires
-    returns-4
-    last-bad-requires
-    returns-5
-    owner-bad-requires
-    returns-6
-    rank-bad-requires
-    returns-7
-    path-bad-requires
-    returns-8
-    returns-9)
+    (tie.spec hops-bad-requires returns vertex-bad-requires returns-2 filler-bad-requires returns-3 twice-bad-requires returns-4 last-bad-requires returns-5 owner-bad-requires returns-6 rank-bad-requires returns-7 path-bad-requires returns-8 returns-9)
