@@ -9,3 +9,4 @@ pub mod FillLaws
 pub mod FoldLaws
 pub mod Parts
 pub mod PlaceLaws
+pub mod MoreLaws

@@ -11,7 +11,7 @@ use Rattle.lists.specs.Search.{outside, firstFrom, anyBelow, countBelow, thoseB
 use Rattle.lists.specs.Fill.{tabulate, blocks, padded}
 use Rattle.lists.specs.Fold.{foldLeft}
 use Rattle.rules.specs.Table.{Path, recordAt, records, rankOf, hopsOf, pathOf, ownerOf, owned, pathsBelow, pathsOf, present, longest, nextHop, rest, first, listens}
-use Rattle.rules.specs.Refusals.{Refusal, hopsBad, vertexBad, unusedOf, fillerBad, twice, twiceBad, lastBad, ownerBad, rankDue, rankBad, pathBad, inRecord, rule, recordRules, firstBroken, fault, firstBad, tooLong, ragged, refusal}
+use Rattle.rules.specs.Refusals.{Refusal, hopsBad, vertexBad, unusedOf, fillerBad, twice, twiceBad, lastBad, ownerBad, rankDue, rankBad, pathBad, inRecord, rule, recordRules, firstBroken, fault, faulty, firstBad, tooLong, ragged, refusal}
 use Rattle.rules.specs.Greedy.{isSettled, compatible, atStart, best, judged, stage, settledList, settled, enters, quiet, stageCount, stageOf, stuckIn, follows, fromVertex, beforeVertex, closedPart, lowestOf, turned, ringFrom}
 use Rattle.rules.specs.Stable.{extends, bestGiven}
 use Rattle.rules.specs.Report.{Report, placeIn, rankIn, rowBytes, row, report}
@@ -126,5 +126,5 @@ unfoldable pub examples : List Example
 examples = empty ∷ direct ∷ disagree ∷ threeRing ∷ shortcut ∷ silent ∷ chain ∷ firstMoves ∷ withdrawn ∷ blocksApart ∷ blocksAdjacent ∷ []
 
 pub worked : map (λ e. outcome (e .input)) examples ≡ map (λ e. e .expected) examples
-unfolding refusedIf refusedAt _orElse_ otherLength scheduleBad firstBadPair runRefusal outside firstFrom anyBelow countBelow thoseBelow anyIn firstIn elem same maxBelow tabulate blocks padded foldLeft recordAt records rankOf hopsOf pathOf ownerOf owned pathsBelow pathsOf present longest nextHop rest first listens hopsBad vertexBad unusedOf fillerBad twice twiceBad lastBad ownerBad rankDue rankBad pathBad inRecord rule recordRules firstBroken fault firstBad tooLong ragged refusal isSettled compatible atStart best judged stage settledList settled enters quiet stageCount stageOf stuckIn follows fromVertex beforeVertex closedPart lowestOf turned ringFrom extends bestGiven placeIn rankIn rowBytes row report offsetOf speaks byteFor pathFor badByte heardFault lastHeard choice step standingOf standing movement pairsIn isUp isDown more listeningOffsets closes begun activated run recordBytes blockBytes tableBytes vertices lineOf checkedOf movements ranOf outcome table3 table7 empty direct disagree threeRing shortcut silent chain firstMoves withdrawn blocksApart blocksAdjacent examples
+unfolding refusedIf refusedAt _orElse_ otherLength scheduleBad firstBadPair runRefusal outside firstFrom anyBelow countBelow thoseBelow anyIn firstIn elem same maxBelow tabulate blocks padded foldLeft recordAt records rankOf hopsOf pathOf ownerOf owned pathsBelow pathsOf present longest nextHop rest first listens hopsBad vertexBad unusedOf fillerBad twice twiceBad lastBad ownerBad rankDue rankBad pathBad inRecord rule recordRules firstBroken fault faulty firstBad tooLong ragged refusal isSettled compatible atStart best judged stage settledList settled enters quiet stageCount stageOf stuckIn follows fromVertex beforeVertex closedPart lowestOf turned ringFrom extends bestGiven placeIn rankIn rowBytes row report offsetOf speaks byteFor pathFor badByte heardFault lastHeard choice step standingOf standing movement pairsIn isUp isDown more listeningOffsets closes begun activated run recordBytes blockBytes tableBytes vertices lineOf checkedOf movements ranOf outcome table3 table7 empty direct disagree threeRing shortcut silent chain firstMoves withdrawn blocksApart blocksAdjacent examples
 worked = refl

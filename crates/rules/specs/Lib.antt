@@ -15,3 +15,6 @@ pub mod TableLaws
 pub mod PathLaws
 pub mod MachineLaws
 pub mod RunLaws
+pub mod GreedyLaws
+pub mod RingLaws
+pub mod ReportLaws

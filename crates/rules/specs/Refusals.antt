@@ -91,8 +91,11 @@ unfoldable pub fault : List ℕ → ℕ → ℕ
 fault t i = firstBroken recordRules t i
 
 -- "The first bad record decides."
+unfoldable pub faulty : List ℕ → ℕ → Bool
+faulty t i = not (eqb (fault t i) 0)
+
 unfoldable pub firstBad : List ℕ → Option ℕ
-firstBad t = firstFrom (λ i. not (eqb (fault t i) 0)) 0 (records t)
+firstBad t = firstFrom (faulty t) 0 (records t)
 
 -- "2: table longer than 16,128 bytes"
 unfoldable pub tooLong : List ℕ → Bool

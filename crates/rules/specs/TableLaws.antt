@@ -3,7 +3,7 @@ use mathlib.Core.Path.{_≡_, refl, sym, ap, _∙_, subst}
 use mathlib.Core.Bool.{Bool, true, false, not, _||_}
 use mathlib.Core.List.{List, [], _∷_, _++_}
 use mathlib.Core.Option.{Option, none, some}
-use Prim.Native.Nat.{ℕ, zero, suc, _+_, _-_, _*_, _/_, _<_, _≤_, min}
+use Prim.Native.Nat.{ℕ, zero, suc, _+_, _-_, _*_, _/_, _%_, _<_, _≤_, min}
 use native.Mathlib.Omega.{arith}
 use native.Mathlib.Nat.{not-suc-le-zero}
 use native.Mathlib.Numerals.{add-one}
@@ -12,11 +12,11 @@ use lib.Seq.{drop-cons, getD-take, getD-drop, take-all}
 use lib.Dec.{eqb, ltb}
 use borrow.Author.Tests.{eqb-true, eqb-false, eq-eqb, ne-eqb, ltb-true, ltb-false, lt-ltb, le-ltb}
 use Rattle.lists.specs.Search.{anyBelow, anyIn, elem, firstFrom, outside, same}
-use Rattle.lists.specs.Tests.{true≢, by-test, or-false, or-left, inside, not-false, neither}
-use Rattle.lists.specs.SearchLaws.{first-none, elem-cons, none-below, differ, all-fail, any-below, any-below-suc}
+use Rattle.lists.specs.Tests.{true≢, by-test, or-false, or-left, inside, is-inside, above-out, not-false, neither}
+use Rattle.lists.specs.SearchLaws.{first-none, first-hit, first-miss, first-end, elem-cons, none-below, differ, all-fail, any-below, any-below-suc}
 use Rattle.lists.specs.Parts.{part-to-end}
 use Rattle.rules.specs.Table.{Path, records, recordAt, rankOf, hopsOf, pathOf, ownerOf, rankAt, hopsAt, pathAt, ownerAt}
-use Rattle.rules.specs.Refusals.{Refusal, Rule, unusedOf, rule, inRecord, recordRules, firstBroken, fault, firstBad, tooLong, ragged, refusal, hopsBad, vertexBad, fillerBad, twice, twiceBad, lastBad, ownerBad, rankDue, rankBad, pathBad}
+use Rattle.rules.specs.Refusals.{Refusal, Rule, unusedOf, rule, inRecord, recordRules, firstBroken, fault, faulty, firstBad, tooLong, ragged, refusal, hopsBad, vertexBad, fillerBad, twice, twiceBad, lastBad, ownerBad, rankDue, rankBad, pathBad}
 
 -- a vertex twice, in a scan that has come to i
 
@@ -264,3 +264,50 @@ module _ (t : List ℕ) (i : ℕ) where
   pub path-end : (j : ℕ) → anyBelow samePath j ≡ false → j ≤ i → i ≤ j → false ≡ pathBad t i
   unfolding pathBad
   path-end j come h k = let e : j ≡ i = omega arith in sym (rw e at come)
+
+-- the first bad record, in a search that has come to i with the answer still to be found from there on
+module _ (t : List ℕ) (i : ℕ) (come : firstFrom (faulty t) i (records t - i) ≡ firstBad t) where
+  left : i < records t → records t - i ≡ suc (records t - (i + 1))
+  left h = omega arith
+
+  pub bad-here : (n : ℕ) → n ≡ fault t i → (n ≡ 0 → ⊥) → i < records t → firstBad t ≡ some i
+  unfolding faulty
+  bad-here n e f h = sym come ∙ rw (left h) (first-hit (faulty t) i _ (ap not (ne-eqb (fault t i) 0 (λ q. f (e ∙ q)))))
+
+  pub good-here : fault t i ≡ 0 → i < records t → firstFrom (faulty t) (i + 1) (records t - (i + 1)) ≡ firstBad t
+  unfolding faulty
+  good-here e h =
+      let m = first-miss (faulty t) i (records t - (i + 1)) (ap not (eq-eqb (fault t i) 0 e)) in
+      ap (λ (k : ℕ). firstFrom (faulty t) k (records t - (i + 1))) (add-one i) ∙ sym m ∙ rw (left h) at come
+
+  pub none-bad : records t ≤ i → firstBad t ≡ none
+  none-bad h = let e : records t - i ≡ 0 = omega arith in sym come ∙ rw e (first-end (faulty t) i)
+
+pub all-to-find : (t : List ℕ) → firstFrom (faulty t) 0 (records t - 0) ≡ firstBad t
+unfolding firstBad
+all-to-find t = let e : records t - 0 ≡ records t = omega arith in rw e
+
+-- the table's refusal, case by case
+module _ (t : List ℕ) where
+  abbrev pub at : ℕ → ℕ → Option Refusal
+  at n k = some (record { number = n; place = k })
+
+  pub refused-long : 16128 < length t → refusal t ≡ at 2 0
+  unfolding refusal tooLong
+  refused-long h = rw (lt-ltb 16128 (length t) h, refusal)
+
+  module _ (short : length t ≤ 16128) where
+    pub refused-ragged : (length t % 16 ≡ 0 → ⊥) → refusal t ≡ at 3 0
+    unfolding refusal tooLong ragged
+    refused-ragged h = rw (le-ltb 16128 (length t) short, above-out 0 0 (length t % 16) (omega (arith, h)), refusal)
+
+    module _ (whole : length t % 16 ≡ 0) where
+      judged-records : refusal t ≡ elim (firstBad t) [ none ↦ none | some i ↦ at (fault t i) i ]
+      unfolding refusal tooLong ragged
+      judged-records = rw (le-ltb 16128 (length t) short, is-inside 0 0 (length t % 16) (omega arith) (omega arith), refusal)
+
+      pub refused-record : (i : ℕ) → firstBad t ≡ some i → refusal t ≡ at (fault t i) i
+      refused-record i e = judged-records ∙ rw e
+
+      pub not-refused : firstBad t ≡ none → refusal t ≡ none
+      not-refused e = judged-records ∙ rw e

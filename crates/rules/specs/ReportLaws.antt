@@ -1,0 +1,71 @@
+-- Laws of the report: how long the two buffers are, what the counts add up to, and where there is a ring.
+use mathlib.Core.Path.{_≡_, ap, _∙_}
+use mathlib.Core.Bool.{Bool, true, false, not, _&&_}
+use mathlib.Core.List.{List}
+use mathlib.Core.Option.{Option}
+use Prim.Native.Nat.{ℕ, _+_, _<_, _≤_}
+use native.Mathlib.Omega.{arith}
+use lib.ListN.{length}
+use lib.Dec.{eqb}
+use borrow.Author.Tests.{eqb-true}
+use Rattle.lists.specs.Search.{countBelow}
+use Rattle.lists.specs.Tests.{by-test, true≢}
+use Rattle.lists.specs.MoreLaws.{by-option, and-first, and-second, count-ext, count-parts}
+use Rattle.lists.specs.FillLaws.{blocks-length, padded-length}
+use Rattle.rules.specs.Table.{Path, pathsOf, present}
+use Rattle.rules.specs.Greedy.{Settled, isSettled, stageCount, stuckIn}
+use Rattle.rules.specs.Shape.{Shaped}
+use Rattle.rules.specs.GreedyLaws.{is-some, settled-present, settled-origin}
+use Rattle.rules.specs.RingLaws.{final, isStuck, onward, ring-holds, ring-none}
+use Rattle.rules.specs.Report.{rowBytes, row, report}
+
+-- a row's bytes are 16, whatever they hold
+pub row-bytes-length : (mark rank : ℕ) (p : Path) → length (rowBytes mark rank p) ≡ 16
+unfolding rowBytes
+row-bytes-length mark rank p = omega (arith, padded-length 255 13 p)
+
+-- each row has 16 bytes
+pub row-length : (paths : ℕ → List Path) (isPresent : ℕ → Bool) (S : Settled) (v : ℕ) → length (row paths isPresent S v) ≡ 16
+unfolding row
+row-length paths isPresent S v =
+    by-test (isPresent v) (λ q. by-option (S v) (λ e. rw (q, e, row) (row-bytes-length _ _ _)) (λ p e. rw (q, e, row) (row-bytes-length _ _ _))) (λ q. rw (q, row) (row-bytes-length _ _ _))
+
+-- "rows, 1,024 bytes"
+pub rows-length : (t : List ℕ) → length (report t .rows) ≡ 1024
+unfolding report
+rows-length t =
+    let S : Settled = final (pathsOf t) (present t) in
+    blocks-length (row (pathsOf t) (present t) S) 16 (row-length (pathsOf t) (present t) S) 64
+
+-- "ring, 64 bytes"
+pub ring-length : (t : List ℕ) → length (report t .ring) ≡ 64
+unfolding report
+ring-length t = padded-length 255 64 _
+
+module _ (paths : ℕ → List Path) (isPresent : ℕ → Bool) (shaped : Shaped paths isPresent) where
+  -- the settled and the stuck vertices are the present ones, all without vertex 0
+  pub counts : countBelow (λ v. not (eqb v 0) && isSettled (final paths isPresent v)) 64 + countBelow (isStuck paths isPresent) 64 ≡ countBelow (λ v. not (eqb v 0) && isPresent v) 64
+  unfolding stuckIn isSettled
+  counts =
+      rw (count-ext (λ v. not (eqb v 0) && isSettled (final paths isPresent v)) (λ v. (not (eqb v 0) && isPresent v) && isSettled (final paths isPresent v)) 64 (λ v h. and-second (not (eqb v 0)) (isPresent v) _ (here v)), count-ext (isStuck paths isPresent) (λ v. (not (eqb v 0) && isPresent v) && not (isSettled (final paths isPresent v))) 64 (λ v h. and-first (not (eqb v 0)) (isPresent v) _ (other v)))
+      (count-parts (λ v. not (eqb v 0) && isPresent v) (λ v. isSettled (final paths isPresent v)) 64)
+    where
+      here : (v : ℕ) → isSettled (final paths isPresent v) ≡ true → isPresent v ≡ true
+      here v e = let r = is-some _ e in settled-present paths isPresent (shaped .origin) (stageCount paths isPresent) v (r .0) (r .1)
+
+      other : (v : ℕ) → not (isSettled (final paths isPresent v)) ≡ true → not (eqb v 0) ≡ true
+      other v e = by-test (eqb v 0) (λ q. absurd (true≢ e (ap (λ (u : ℕ). not (isSettled (final paths isPresent u))) (eqb-true v 0 q) ∙ ap (λ (o : Option Path). not (isSettled o)) (settled-origin paths isPresent (stageCount paths isPresent))))) (λ q. ap not q)
+
+-- in the report of an accepted table
+pub report-counts : (t : List ℕ) → Shaped (pathsOf t) (present t) → report t .settledCount + report t .stuckCount ≡ countBelow (λ v. not (eqb v 0) && present t v) 64
+unfolding report
+report-counts t shaped = counts (pathsOf t) (present t) shaped
+
+-- where some vertex is stuck the report has a ring, and where none is it has none: the verdict tells the two apart by the ring's length
+pub report-ring : (t : List ℕ) → Shaped (pathsOf t) (present t) → (v : ℕ) → isStuck (pathsOf t) (present t) v ≡ true → 2 ≤ report t .ringLength
+unfolding report
+report-ring t shaped v s = ring-holds (pathsOf t) (present t) shaped v s .two
+
+pub report-complete : (t : List ℕ) → ((v : ℕ) → v < 64 → isStuck (pathsOf t) (present t) v ≡ false) → report t .ringLength ≡ 0
+unfolding report
+report-complete t h = ap length (ring-none (isStuck (pathsOf t) (present t)) (onward (pathsOf t) (present t)) h)
