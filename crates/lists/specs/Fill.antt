@@ -1,7 +1,8 @@
 -- Lists made from the front: one element or one block for each number below a bound, and a list padded to a length.
 use Prim.Native.Nat.{ℕ, zero, suc}
+use mathlib.Core.Bool.{Bool, true}
 use mathlib.Core.List.{List, [], _∷_, _++_}
-use lib.ListN.{take, replicate}
+use lib.ListN.{take, replicate, set}
 
 module _ {A : Type 0} where
   -- f 0, f 1, .. below n
@@ -17,3 +18,8 @@ module _ {A : Type 0} where
   -- the list, then x up to n elements; what is past n goes
   unfoldable pub padded : ℕ → A → List A → List A
   padded n x xs = take n (xs ++ replicate n x)
+
+-- a list of marks with those at the given places set
+unfoldable pub marked : List Bool → List ℕ → List Bool
+marked marks [] = marks
+marked marks (n ∷ ns) = marked (set marks n true) ns

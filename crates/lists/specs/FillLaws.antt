@@ -1,16 +1,20 @@
 -- Laws of lists made from the front: lengths, elements, blocks, what a store changes, and padding.
 use mathlib.Core.Path.{_≡_, refl, sym, ap, _∙_}
-use mathlib.Core.Bool.{Bool, true, false}
-use mathlib.Core.List.{List, [], _∷_, _++_, append-assoc}
+use mathlib.Core.Bool.{Bool, true, false, _||_, or-true, or-false, or-assoc}
+use mathlib.Core.List.{List, [], _∷_, _++_, map}
 use Prim.Native.Nat.{ℕ, zero, suc, _+_, _*_, _<_, _≤_, min}
 use native.Mathlib.Omega.{arith}
 use native.Mathlib.Nat.{not-suc-le-zero, mul-suc, mul-le-mul-left}
-use lib.ListN.{length, getD, take, drop, set, replicate, length-append, length-take, length-drop, length-replicate, List·getD-append, length-set}
-use lib.Seq.{getD-append-seam, set-append-left, set-at, ext-getD, getD-at, take-append-le, take-append-seam, take-all, drop-append-le, getD-set-same, getD-set-other, take-at, drop-at}
+use lib.ListN.{length, getD, take, drop, set, replicate, length-append, length-take, length-drop, length-replicate, List·getD-append, length-set, drop-of-length-le}
+use native.Mathlib.Numerals.{add-one}
+use lib.Seq.{getD-append-seam, set-append-left, set-at, ext-getD, getD-at, take-append-le, take-append-seam, take-all, drop-append-le, getD-set-same, getD-set-other, take-at, drop-at, set-out, drop-cons, getD-take}
 use lib.Dec.{eqb}
-use borrow.Author.Tests.{eqb-true, eqb-false}
-use Rattle.lists.specs.Fill.{tabulate, blocks, padded}
+use borrow.Author.Tests.{eqb-true, eqb-false, eq-eqb, ne-eqb}
+use Rattle.lists.specs.Search.{elem}
+use Rattle.lists.specs.Fill.{tabulate, blocks, padded, marked}
 use Rattle.lists.specs.Tests.{by-test}
+use Rattle.lists.specs.SearchLaws.{elem-cons, elem-nil}
+use Rattle.lists.specs.PlaceLaws.{alike-at}
 
 module _ {A : Type 0} (f : ℕ → A) where
   pub tabulate-none : tabulate f 0 ≡ []
@@ -81,3 +85,63 @@ module _ {A : Type 0} (x : A) where
   unfolding padded
   padded-length n xs =
       length-take n (xs ++ replicate n x) ∙ omega (arith, length-append xs (replicate n x), length-replicate n x)
+
+  filler-at : (n : ℕ) (xs : List A) (i : ℕ) → getD (xs ++ replicate n x) i x ≡ getD xs i x
+  filler-at n [] i = alike-at n i x
+  filler-at n (y ∷ ys) zero = refl
+  filler-at n (y ∷ ys) (suc i) = filler-at n ys i
+
+  pub padded-at : (n : ℕ) (xs : List A) (i : ℕ) → i < n → getD (padded n x xs) i x ≡ getD xs i x
+  unfolding padded
+  padded-at n xs i h = getD-take n (xs ++ replicate n x) i x h ∙ filler-at n xs i
+
+  more-at : (xs : List A) (y : A) (i : ℕ) → (i ≡ length xs → ⊥) → getD xs i x ≡ getD (xs ++ y ∷ []) i x
+  more-at [] y zero f = absurd (f refl)
+  more-at [] y (suc i) f = refl
+  more-at (z ∷ zs) y zero f = refl
+  more-at (z ∷ zs) y (suc i) f = more-at zs y i (λ e. f (ap suc e))
+
+  -- a store behind the list adds to it, and what is past the end goes
+  pub padded-more : (n : ℕ) (xs : List A) (y : A) (k : ℕ) → k ≡ length xs → k < n → set (padded n x xs) k y ≡ padded n x (xs ++ y ∷ [])
+  padded-more n xs y k e h =
+      ext-getD x (set (padded n x xs) k y) (padded n x (xs ++ y ∷ [])) (length-set (padded n x xs) k y ∙ padded-length n xs ∙ sym (padded-length n (xs ++ y ∷ [])))
+      (λ i l. let m : i < n = omega (arith, length-set (padded n x xs) k y, padded-length n xs) in by-test (eqb i k)
+      (λ q. let j : i ≡ k = eqb-true i k q in rw j (getD-set-same (padded n x xs) k y x (rw (padded-length n xs) h) ∙ sym (padded-at n (xs ++ y ∷ []) k h ∙ getD-at xs y [] x k (sym e))))
+      (λ q. getD-set-other (padded n x xs) k i y x (eqb-false i k q) ∙ padded-at n xs i m ∙ more-at xs y i (λ j. eqb-false i k q (j ∙ sym e)) ∙ sym (padded-at n (xs ++ y ∷ []) i m)))
+
+  pub padded-full : (n : ℕ) (xs : List A) (y : A) → n ≤ length xs → padded n x (xs ++ y ∷ []) ≡ padded n x xs
+  padded-full n xs y h =
+      ext-getD x (padded n x (xs ++ y ∷ [])) (padded n x xs) (padded-length n (xs ++ y ∷ []) ∙ sym (padded-length n xs))
+      (λ i l. let m : i < n = omega (arith, padded-length n (xs ++ y ∷ [])) in padded-at n (xs ++ y ∷ []) i m ∙ sym (more-at xs y i (omega arith)) ∙ sym (padded-at n xs i m))
+
+-- marks
+
+pub mark-one : (P Q : ℕ → Bool) (n x : ℕ) → ((v : ℕ) → v < n → Q v ≡ P v || eqb v x) → set (tabulate P n) x true ≡ tabulate Q n
+mark-one P Q n x h =
+    is-tabulate Q true n (set (tabulate P n) x true) (length-set (tabulate P n) x true ∙ tabulate-length P n)
+    (λ v l. by-test (eqb v x)
+    (λ q. let e : v ≡ x = eqb-true v x q in getD-set-at v x e l ∙ sym (h v l ∙ rw (q, or-true)))
+    (λ q. getD-set-other (tabulate P n) x v true true (eqb-false v x q) ∙ tabulate-at P n v true l ∙ sym (h v l ∙ rw (q, or-false))))
+  where
+    getD-set-at : (v x : ℕ) → v ≡ x → v < n → getD (set (tabulate P n) x true) v true ≡ true
+    getD-set-at v x e l = rw e (getD-set-same (tabulate P n) x true true (rw (tabulate-length P n) (rw e at l)))
+
+pub mark-list : (P Q : ℕ → Bool) (n : ℕ) (ns : List ℕ) → ((v : ℕ) → v < n → Q v ≡ P v || elem v ns) → marked (tabulate P n) ns ≡ tabulate Q n
+unfolding marked
+mark-list P Q n [] h = tabulate-ext P Q n (λ v l. sym (h v l ∙ rw (elem-nil v, or-false)))
+mark-list P Q n (x ∷ xs) h =
+    ap (λ (l : List Bool). marked l xs) (mark-one P (λ v. P v || eqb v x) n x (λ v l. refl)) ∙ mark-list (λ v. P v || eqb v x) Q n xs (λ v l. h v l ∙ rw (elem-cons v x xs) (sym (or-assoc (P v) (eqb v x) (elem v xs))))
+
+-- marks set one after the other, in a walk that has come to k
+module _ (marks : List Bool) (ns : List ℕ) (k : ℕ) where
+  pub marked-next : (next r : List Bool) → next ≡ set marks (getD ns k 0) true → k < length ns → marked marks (drop k ns) ≡ r → marked next (drop (k + 1) ns) ≡ r
+  unfolding marked
+  marked-next next r e h come = rw (e, add-one) (rw (drop-cons ns k 0 h) at come)
+
+  pub marked-end : length ns ≤ k → marked marks (drop k ns) ≡ marks
+  unfolding marked
+  marked-end h = rw (drop-of-length-le ns h)
+
+pub map-append : {A B : Type 0} (f : A → B) (xs ys : List A) → map f (xs ++ ys) ≡ map f xs ++ map f ys
+map-append f [] ys = refl
+map-append f (x ∷ xs) ys = ap (λ l. f x ∷ l) (map-append f xs ys)

@@ -222,6 +222,11 @@ module _ {A : Type 0} (test : ℕ → A → Bool) where
       let z : i + 0 ≡ i = omega arith in
       first-in-miss i x xs (rw z at (f 0 (omega arith))) ∙ all-fail-in xs d (suc i) (λ k h. let y : suc i + k ≡ i + suc k = omega arith in rw y (f (suc k) (omega arith)))
 
+-- two comparisons that hold together are one
+pub eqb-same : (a b c d : ℕ) → (a ≡ b → c ≡ d) → (c ≡ d → a ≡ b) → eqb a b ≡ eqb c d
+eqb-same a b c d f g =
+    by-test (eqb c d) (λ q. eq-eqb a b (g (eqb-true c d q)) ∙ sym q) (λ q. ne-eqb a b (λ e. eqb-false c d q (f e)) ∙ sym q)
+
 -- whether a number stands in a list, and whether two lists are the same
 
 pub elem-nil : (n : ℕ) → elem n [] ≡ false

@@ -1,11 +1,14 @@
 // The reader of path tables: whether a table is accepted, and what the check and the machine need of it.
 ghost use mathlib.Core.Path.{_≡_};
-ghost use Prim.Native.Nat.{_+_, _≤_, _<_, min};
-ghost use lib.ListN.{length};
+ghost use mathlib.Core.Bool.{true};
+ghost use Prim.Native.Nat.{_+_, _≤_, _<_, min, max};
+ghost use lib.ListN.{length, set};
 ghost use Rattle.lists.specs.Search.{anyIn, elem, outside, same};
-ghost use Rattle.rules.specs.Table.{records, recordAt, rankAt, hopsAt, pathAt, ownerAt};
+ghost use Rattle.lists.specs.Fill.{tabulate, marked};
+ghost use Rattle.rules.specs.Table.{records, recordAt, rankAt, hopsAt, pathAt, ownerAt, longest, present, slotsOf, nextHop};
 ghost use Rattle.rules.specs.Refusals.{twice, hopsBad, vertexBad, fillerBad, twiceBad, lastBad, ownerBad, rankDue, rankBad, pathBad, fault, refusal};
 ghost use Rattle.rules.specs.TableLaws.{Orderly};
+ghost use Rattle.rules.specs.PassLaws.{pairMarked, pairBelow};
 ghost use Rattle.reader.specs.Reading.{readingOf};
 
 // Whether b lies outside low to high.
@@ -293,4 +296,134 @@ pub fn read(t: &[u8]) -> Reading
         i += 1;
     }
     Reading::Accepted
+}
+
+fn larger(a: u8, b: u8) -> u8
+    ensures { λ r. ⌜ r ≡ max a b ⌝ }
+{
+    if a < b {
+        return b;
+    }
+    a
+}
+
+// The hops of the longest path, 0 where there is no record.
+pub fn longest_hops(t: &[u8]) -> u8
+    ensures { λ r. ⌜ r ≡ longest (now (t .entry)) ⌝ }
+{
+    let count = t.len() / 16;
+    let mut most = 0;
+    let mut i = 0;
+    while i < count {
+        most = larger(most, hops_at(t, i));
+        i += 1;
+    }
+    most
+}
+
+// Marks a place, where there is one.
+fn mark(marks: &mut [bool], at: usize)
+    ensures { λ r. ⌜ now (marks .exit) ≡ set (now (marks .entry)) at true ⌝ }
+{
+    if marks.len() <= at {
+        return;
+    }
+    marks[at] = true;
+}
+
+// Marks every vertex of a path.
+fn mark_all(marks: &mut [bool], path: &[u8])
+    ensures { λ r. ⌜ now (marks .exit) ≡ marked (now (marks .entry)) (now (path .entry)) ⌝ }
+{
+    let mut k = 0;
+    while k < path.len() {
+        mark(marks, path[k] as usize);
+        k += 1;
+    }
+}
+
+// Which vertices are present.
+pub fn present_in(t: &[u8]) -> [bool; 64]
+    ensures { λ r. ⌜ r ≡ tabulate (present (now (t .entry))) 64 ⌝ }
+{
+    let count = t.len() / 16;
+    let mut named = [false; 64];
+    named[0] = true;
+    let mut i = 0;
+    while i < count {
+        mark_all(&mut named, path_at(t, i));
+        i += 1;
+    }
+    named
+}
+
+// The second vertex of record i, 0 where there is none.
+fn next_at(t: &[u8], i: usize) -> u8
+    requires { ⌜ i < records (now t) ⌝ }
+    ensures { λ r. ⌜ r ≡ nextHop (pathAt (now (t .entry)) i) ⌝ }
+{
+    let path = path_at(t, i);
+    if path.len() <= 1 {
+        return 0;
+    }
+    path[1]
+}
+
+// Marks the pair v, u, where u is a vertex.
+fn mark_pair(marks: &mut [bool], v: u8, u: u8)
+    ensures { λ r. ⌜ now (marks .exit) ≡ pairMarked (now (marks .entry)) v u ⌝ }
+{
+    if 64 <= u {
+        return;
+    }
+    let at = v as usize * 64 + u as usize;
+    mark(marks, at);
+}
+
+// Which pairs listen: v to u at 64 times v plus u.
+pub fn listening_in(t: &[u8]) -> [bool; 4096]
+    ensures { λ r. ⌜ r ≡ tabulate (pairBelow (now (t .entry)) (records (now (t .entry)))) 4096 ⌝ }
+{
+    let count = t.len() / 16;
+    let mut marks = [false; 4096];
+    let mut i = 0;
+    while i < count {
+        mark_pair(&mut marks, owner_at(t, i), next_at(t, i));
+        i += 1;
+    }
+    marks
+}
+
+// The best-first slots of the first 1,008 records: 16 record numbers for each vertex, built in one pass.
+pub fn slots_of(t: &[u8]) -> [[u16; 16]; 64]
+    ensures { λ r. ⌜ r ≡ slotsOf (now (t .entry)) (min (records (now (t .entry))) 1008) ⌝ }
+{
+    let count = at_most(t.len() / 16, 1008);
+    let mut slots = [[65535; 16]; 64];
+    let mut used = [0usize; 64];
+    let mut i = 0;
+    while i < count {
+        let here = i;
+        i += 1;
+        let v = owner_at(t, here) as usize;
+        if 64 <= v {
+            continue;
+        }
+        let k = used[v];
+        if 16 <= k {
+            continue;
+        }
+        slots[v][k] = here as u16;
+        used[v] = k + 1;
+    }
+    slots
+}
+
+fn at_most(n: usize, most: usize) -> usize
+    ensures { λ r. ⌜ r ≡ min n most ⌝ }
+{
+    if most < n {
+        return most;
+    }
+    n
 }

@@ -18,3 +18,4 @@ pub mod RunLaws
 pub mod GreedyLaws
 pub mod RingLaws
 pub mod ReportLaws
+pub mod PassLaws

@@ -1,0 +1,145 @@
+-- Laws of one pass through a table: what the slots, the marks and the greatest hops are after one record more.
+use mathlib.Core.Path.{_≡_, refl, sym, ap, _∙_}
+use mathlib.Core.Bool.{Bool, true, false, _||_, _&&_, or-assoc, or-false}
+use mathlib.Core.List.{List, [], _∷_, _++_, map}
+use Prim.Native.Nat.{ℕ, zero, suc, _+_, _-_, _*_, _/_, _%_, _<_, _≤_, min, max}
+use native.Mathlib.Omega.{arith}
+use native.Mathlib.Numerals.{add-one}
+use lib.ListN.{length, getD, set, replicate, length-append, length-replicate, getD-replicate}
+use lib.Dec.{eqb, ltb}
+use borrow.Author.Tests.{eqb-true, eqb-false, eq-eqb, ne-eqb, ltb-true, ltb-false}
+use Rattle.lists.specs.Search.{anyBelow, anyIn, elem, maxBelow, thoseBelow}
+use Rattle.lists.specs.Fill.{padded, tabulate, marked}
+use Rattle.lists.specs.SearchLaws.{max-suc, any-append, any-cons, any-nil, eqb-same, any-below-suc, those-in, those-out, those-none}
+use Rattle.lists.specs.FillLaws.{is-tabulate, mark-one, map-append, tabulate-ext, tabulate-set, tabulate-at, mark-list, padded-more, padded-full}
+use Rattle.lists.specs.Tests.{by-test}
+use Rattle.rules.specs.Table.{Path, pathAt, hopsAt, ownerAt, owned, pathsBelow, slotsOf, nextHop, listens}
+
+module _ (t : List ℕ) (i : ℕ) where
+  -- the greatest hops
+
+  pub hops-more : (m h n : ℕ) → m ≡ maxBelow (hopsAt t) i → h ≡ hopsAt t i → n ≡ max m h → n ≡ maxBelow (hopsAt t) (i + 1)
+  hops-more m h n e f g = g ∙ rw (e, f, add-one) (sym (max-suc (hopsAt t) i))
+
+  -- the vertices that the records below i name
+
+  abbrev pub namedBelow : ℕ → Bool
+  namedBelow v = eqb v 0 || anyBelow (λ j. elem v (pathAt t j)) i
+
+-- the records of one owner
+
+module _ (t : List ℕ) (i v : ℕ) where
+  pub owned-in : ownerAt t i ≡ v → owned t (i + 1) v ≡ owned t i v ++ i ∷ []
+  unfolding owned
+  owned-in e = rw add-one (those-in (λ j. eqb (ownerAt t j) v) i (eq-eqb (ownerAt t i) v e))
+
+  pub owned-out : (ownerAt t i ≡ v → ⊥) → owned t (i + 1) v ≡ owned t i v
+  unfolding owned
+  owned-out f = rw add-one (those-out (λ j. eqb (ownerAt t j) v) i (ne-eqb (ownerAt t i) v f))
+
+pub names-more : (t : List ℕ) (i : ℕ) (marks : List Bool) (p : List ℕ) → marks ≡ tabulate (namedBelow t i) 64 → p ≡ pathAt t i → marked marks p ≡ tabulate (namedBelow t (i + 1)) 64
+names-more t i marks p e f =
+    rw (e, f) (mark-list (namedBelow t i) (namedBelow t (i + 1)) 64 (pathAt t i)
+    (λ v l. ap (λ (b : Bool). eqb v 0 || b) (ap (anyBelow (λ j. elem v (pathAt t j))) (add-one i) ∙ any-below-suc (λ j. elem v (pathAt t j)) i) ∙ sym (or-assoc (eqb v 0) _ _)))
+
+pub names-none : (t : List ℕ) → set (replicate 64 false) 0 true ≡ tabulate (namedBelow t 0) 64
+unfolding tabulate anyBelow
+names-none t = refl
+
+-- how many slots of each vertex are used
+unfoldable pub usedOf : List ℕ → ℕ → List ℕ
+usedOf t n = tabulate (λ v. min (length (owned t n v)) 16) 64
+
+pub record Slotted (t : List ℕ) (n : ℕ) (slots : List (List ℕ)) (used : List ℕ) : Type 0 where
+  pub filled : slots ≡ slotsOf t n
+  pub counted : used ≡ usedOf t n
+
+module _ (t : List ℕ) (i : ℕ) (slots : List (List ℕ)) (used : List ℕ) (s : Slotted t i slots used) where
+  -- a record of an owner that is no vertex changes nothing
+  pub slots-skip : 64 ≤ ownerAt t i → Slotted t (i + 1) slots used
+  unfolding slotsOf usedOf
+  slots-skip h =
+      record { filled = s .filled ∙ tabulate-ext _ _ 64 (λ v l. ap (padded 16 65535) (sym (owned-out t i v (omega arith)))); counted = s .counted ∙ tabulate-ext _ _ 64 (λ v l. ap (λ (o : List ℕ). min (length o) 16) (sym (owned-out t i v (omega arith)))) }
+
+  module _ (v : ℕ) (mine : v ≡ ownerAt t i) (small : v < 64) where
+    used-at : getD used v 0 ≡ min (length (owned t i v)) 16
+    unfolding usedOf
+    used-at = rw (s .counted) (tabulate-at (λ w. min (length (owned t i w)) 16) 64 v 0 small)
+
+    others : (w : ℕ) → (w ≡ v → ⊥) → owned t (i + 1) w ≡ owned t i w
+    others w f = owned-out t i w (λ e. f (sym e ∙ sym mine))
+
+    mine-more : owned t (i + 1) v ≡ owned t i v ++ i ∷ []
+    mine-more = owned-in t i v (sym mine)
+
+    -- nor does one whose owner's slots are full
+    pub slots-full : 16 ≤ getD used v 0 → Slotted t (i + 1) slots used
+    unfolding slotsOf usedOf
+    slots-full h =
+        let long : 16 ≤ length (owned t i v) = omega (arith, used-at) in
+        record { filled = s .filled ∙ tabulate-ext _ _ 64 (λ w l. by-test (eqb w v) (λ q. let e : w ≡ v = eqb-true w v q in rw (e, mine-more) (sym (padded-full 65535 16 (owned t i v) i long))) (λ q. ap (padded 16 65535) (sym (others w (eqb-false w v q))))); counted = s .counted ∙ tabulate-ext _ _ 64 (λ w l. by-test (eqb w v) (λ q. let e : w ≡ v = eqb-true w v q in rw (e, mine-more) (omega (arith, length-append (owned t i v) (i ∷ [])))) (λ q. ap (λ (o : List ℕ). min (length o) 16) (sym (others w (eqb-false w v q))))) }
+
+    -- any other takes the next slot
+    pub slots-store : (k : ℕ) → k ≡ getD used v 0 → k < 16 → Slotted t (i + 1) (set slots v (set (getD slots v []) k i)) (set used v (k + 1))
+    unfolding slotsOf usedOf
+    slots-store k e h =
+        let here : k ≡ length (owned t i v) = omega (arith, used-at) in
+        let row : getD slots v [] ≡ padded 16 65535 (owned t i v) = rw (s .filled) (tabulate-at (λ w. padded 16 65535 (owned t i w)) 64 v [] small) in
+        record { filled = rw (row, s .filled) (tabulate-set (λ w. padded 16 65535 (owned t i w)) (λ w. padded 16 65535 (owned t (i + 1) w)) 64 v (set (padded 16 65535 (owned t i v)) k i) small (ap (padded 16 65535) mine-more ∙ sym (padded-more 65535 16 (owned t i v) i k here h)) (λ w f. ap (padded 16 65535) (sym (others w f)))); counted = rw (s .counted) (tabulate-set (λ w. min (length (owned t i w)) 16) (λ w. min (length (owned t (i + 1) w)) 16) 64 v (k + 1) small (rw mine-more (omega (arith, length-append (owned t i v) (i ∷ [])))) (λ w f. ap (λ (o : List ℕ). min (length o) 16) (sym (others w f)))) }
+
+pub slots-none : (t : List ℕ) → Slotted t 0 (replicate 64 (replicate 16 65535)) (replicate 64 0)
+unfolding slotsOf usedOf owned thoseBelow tabulate padded
+slots-none t = record { filled = refl; counted = refl }
+
+-- the listening pairs
+
+pub paths-in : (t : List ℕ) (i v : ℕ) → ownerAt t i ≡ v → pathsBelow t (i + 1) v ≡ pathsBelow t i v ++ pathAt t i ∷ []
+unfolding pathsBelow
+paths-in t i v e = ap (map (pathAt t)) (owned-in t i v e) ∙ map-append (pathAt t) (owned t i v) (i ∷ [])
+
+pub paths-out : (t : List ℕ) (i v : ℕ) → (ownerAt t i ≡ v → ⊥) → pathsBelow t (i + 1) v ≡ pathsBelow t i v
+unfolding pathsBelow
+paths-out t i v f = ap (map (pathAt t)) (owned-out t i v f)
+
+-- the mark of a pair, where the speaker is a vertex
+unfoldable pub pairMarked : List Bool → ℕ → ℕ → List Bool
+pairMarked marks v u = elim (ltb u 64) [ true ↦ set marks (64 * v + u) true | false ↦ marks ]
+
+module _ (t : List ℕ) (i : ℕ) where
+  abbrev pub pairBelow : ℕ → Bool
+  pairBelow k = listens (pathsBelow t i) (k / 64) (k % 64)
+
+module _ (t : List ℕ) (i : ℕ) where
+  hears-more : (v u : ℕ) → ownerAt t i ≡ v → listens (pathsBelow t (i + 1)) v u ≡ listens (pathsBelow t i) v u || eqb (nextHop (pathAt t i)) u
+  unfolding listens
+  hears-more v u e =
+      ap (anyIn _) (paths-in t i v e) ∙ any-append _ (pathsBelow t i v) (pathAt t i ∷ []) ∙ rw (any-cons (λ p. eqb (nextHop p) u) (pathAt t i) [], any-nil (λ p. eqb (nextHop p) u), or-false)
+
+  hears-same : (v u : ℕ) → (ownerAt t i ≡ v → ⊥) → listens (pathsBelow t (i + 1)) v u ≡ listens (pathsBelow t i) v u
+  unfolding listens
+  hears-same v u f = ap (anyIn _) (paths-out t i v f)
+
+  -- one record more marks its own pair
+  pair-here : (k : ℕ) → nextHop (pathAt t i) < 64 → pairBelow t (i + 1) k ≡ pairBelow t i k || eqb k (64 * ownerAt t i + nextHop (pathAt t i))
+  pair-here k small =
+      by-test (eqb (ownerAt t i) (k / 64))
+      (λ q. let e = eqb-true (ownerAt t i) (k / 64) q in hears-more (k / 64) (k % 64) e ∙ ap (λ (b : Bool). pairBelow t i k || b) (eqb-same (nextHop (pathAt t i)) (k % 64) k (64 * ownerAt t i + nextHop (pathAt t i)) (omega arith) (omega arith)))
+      (λ q. let f = eqb-false (ownerAt t i) (k / 64) q in hears-same (k / 64) (k % 64) f ∙ sym (rw (ne-eqb k (64 * ownerAt t i + nextHop (pathAt t i)) (omega arith)) (or-false (pairBelow t i k))))
+
+  -- and none where the second vertex is none
+  pair-none : (k : ℕ) → 64 ≤ nextHop (pathAt t i) → pairBelow t (i + 1) k ≡ pairBelow t i k
+  pair-none k large =
+      by-test (eqb (ownerAt t i) (k / 64))
+      (λ q. hears-more (k / 64) (k % 64) (eqb-true (ownerAt t i) (k / 64) q) ∙ rw (ne-eqb (nextHop (pathAt t i)) (k % 64) (omega arith)) (or-false (pairBelow t i k)))
+      (λ q. hears-same (k / 64) (k % 64) (eqb-false (ownerAt t i) (k / 64) q))
+
+  pub pairs-more : (marks : List Bool) (v u : ℕ) → marks ≡ tabulate (pairBelow t i) 4096 → v ≡ ownerAt t i → u ≡ nextHop (pathAt t i) → pairMarked marks v u ≡ tabulate (pairBelow t (i + 1)) 4096
+  unfolding pairMarked
+  pairs-more marks v u e f g =
+      by-test (ltb u 64)
+      (λ q. rw (q, pairMarked) (rw (e, f, g) (mark-one (pairBelow t i) (pairBelow t (i + 1)) 4096 (64 * ownerAt t i + nextHop (pathAt t i)) (λ k l. pair-here k (rw g at (ltb-true u 64 q))))))
+      (λ q. rw (q, pairMarked) (e ∙ tabulate-ext (pairBelow t i) (pairBelow t (i + 1)) 4096 (λ k l. sym (pair-none k (rw g at (ltb-false u 64 q))))))
+
+pub pairs-none : (t : List ℕ) → replicate 4096 false ≡ tabulate (pairBelow t 0) 4096
+unfolding listens pathsBelow owned thoseBelow anyIn
+pairs-none t = is-tabulate (pairBelow t 0) false 4096 (replicate 4096 false) (length-replicate 4096 false) (λ k l. getD-replicate 4096 k false false l)
