@@ -5,10 +5,10 @@ ghost use Prim.Native.Nat.{_+_, _≤_, _<_, min, max};
 ghost use lib.ListN.{length, set};
 ghost use Rattle.lists.specs.Search.{anyIn, elem, outside, same};
 ghost use Rattle.lists.specs.Fill.{tabulate, marked};
-ghost use Rattle.rules.specs.Table.{records, recordAt, rankAt, hopsAt, pathAt, ownerAt, longest, present, slotsOf, nextHop};
+ghost use Rattle.rules.specs.Table.{records, recordAt, rankAt, hopsAt, pathAt, ownerAt, longest, present, pathsOf, slotsOf, nextHop, listensAt};
 ghost use Rattle.rules.specs.Refusals.{twice, hopsBad, vertexBad, fillerBad, twiceBad, lastBad, ownerBad, rankDue, rankBad, pathBad, fault, refusal};
 ghost use Rattle.rules.specs.TableLaws.{Orderly};
-ghost use Rattle.rules.specs.PassLaws.{pairMarked, pairBelow};
+ghost use Rattle.rules.specs.PassLaws.{pairMarked};
 ghost use Rattle.reader.specs.Reading.{readingOf};
 
 // Whether b lies outside low to high.
@@ -382,7 +382,7 @@ fn mark_pair(marks: &mut [bool], v: u8, u: u8)
 
 // Which pairs listen: v to u at 64 times v plus u.
 pub fn listening_in(t: &[u8]) -> [bool; 4096]
-    ensures { λ r. ⌜ r ≡ tabulate (pairBelow (now (t .entry)) (records (now (t .entry)))) 4096 ⌝ }
+    ensures { λ r. ⌜ r ≡ tabulate (listensAt (pathsOf (now (t .entry)))) 4096 ⌝ }
 {
     let count = t.len() / 16;
     let mut marks = [false; 4096];

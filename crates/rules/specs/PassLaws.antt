@@ -5,15 +5,15 @@ use mathlib.Core.List.{List, [], _∷_, _++_, map}
 use Prim.Native.Nat.{ℕ, zero, suc, _+_, _-_, _*_, _/_, _%_, _<_, _≤_, min, max}
 use native.Mathlib.Omega.{arith}
 use native.Mathlib.Numerals.{add-one}
-use lib.ListN.{length, getD, set, replicate, length-append, length-replicate, getD-replicate}
+use lib.ListN.{length, getD, set, replicate, length-append, length-replicate, getD-replicate, List·getD-eq-default}
 use lib.Dec.{eqb, ltb}
-use borrow.Author.Tests.{eqb-true, eqb-false, eq-eqb, ne-eqb, ltb-true, ltb-false}
+use borrow.Author.Tests.{eqb-true, eqb-false, eq-eqb, ne-eqb, ltb-true, ltb-false, lt-ltb, le-ltb}
 use Rattle.lists.specs.Search.{anyBelow, anyIn, elem, maxBelow, thoseBelow}
 use Rattle.lists.specs.Fill.{padded, tabulate, marked}
 use Rattle.lists.specs.SearchLaws.{max-suc, any-append, any-cons, any-nil, eqb-same, any-below-suc, those-in, those-out, those-none}
 use Rattle.lists.specs.FillLaws.{is-tabulate, mark-one, map-append, tabulate-ext, tabulate-set, tabulate-at, mark-list, padded-more, padded-full}
 use Rattle.lists.specs.Tests.{by-test}
-use Rattle.rules.specs.Table.{Path, pathAt, hopsAt, ownerAt, owned, pathsBelow, slotsOf, nextHop, listens}
+use Rattle.rules.specs.Table.{Path, records, pathAt, hopsAt, ownerAt, owned, pathsBelow, pathsOf, present, slotsOf, nextHop, listens, listensAt}
 
 module _ (t : List ℕ) (i : ℕ) where
   -- the greatest hops
@@ -106,10 +106,6 @@ unfoldable pub pairMarked : List Bool → ℕ → ℕ → List Bool
 pairMarked marks v u = elim (ltb u 64) [ true ↦ set marks (64 * v + u) true | false ↦ marks ]
 
 module _ (t : List ℕ) (i : ℕ) where
-  abbrev pub pairBelow : ℕ → Bool
-  pairBelow k = listens (pathsBelow t i) (k / 64) (k % 64)
-
-module _ (t : List ℕ) (i : ℕ) where
   hears-more : (v u : ℕ) → ownerAt t i ≡ v → listens (pathsBelow t (i + 1)) v u ≡ listens (pathsBelow t i) v u || eqb (nextHop (pathAt t i)) u
   unfolding listens
   hears-more v u e =
@@ -120,26 +116,56 @@ module _ (t : List ℕ) (i : ℕ) where
   hears-same v u f = ap (anyIn _) (paths-out t i v f)
 
   -- one record more marks its own pair
-  pair-here : (k : ℕ) → nextHop (pathAt t i) < 64 → pairBelow t (i + 1) k ≡ pairBelow t i k || eqb k (64 * ownerAt t i + nextHop (pathAt t i))
+  pair-here : (k : ℕ) → nextHop (pathAt t i) < 64 → listensAt (pathsBelow t (i + 1)) k ≡ listensAt (pathsBelow t i) k || eqb k (64 * ownerAt t i + nextHop (pathAt t i))
+  unfolding listensAt
   pair-here k small =
       by-test (eqb (ownerAt t i) (k / 64))
-      (λ q. let e = eqb-true (ownerAt t i) (k / 64) q in hears-more (k / 64) (k % 64) e ∙ ap (λ (b : Bool). pairBelow t i k || b) (eqb-same (nextHop (pathAt t i)) (k % 64) k (64 * ownerAt t i + nextHop (pathAt t i)) (omega arith) (omega arith)))
-      (λ q. let f = eqb-false (ownerAt t i) (k / 64) q in hears-same (k / 64) (k % 64) f ∙ sym (rw (ne-eqb k (64 * ownerAt t i + nextHop (pathAt t i)) (omega arith)) (or-false (pairBelow t i k))))
+      (λ q. let e = eqb-true (ownerAt t i) (k / 64) q in hears-more (k / 64) (k % 64) e ∙ ap (λ (b : Bool). listensAt (pathsBelow t i) k || b) (eqb-same (nextHop (pathAt t i)) (k % 64) k (64 * ownerAt t i + nextHop (pathAt t i)) (omega arith) (omega arith)))
+      (λ q. let f = eqb-false (ownerAt t i) (k / 64) q in hears-same (k / 64) (k % 64) f ∙ sym (rw (ne-eqb k (64 * ownerAt t i + nextHop (pathAt t i)) (omega arith)) (or-false (listensAt (pathsBelow t i) k))))
 
   -- and none where the second vertex is none
-  pair-none : (k : ℕ) → 64 ≤ nextHop (pathAt t i) → pairBelow t (i + 1) k ≡ pairBelow t i k
+  pair-none : (k : ℕ) → 64 ≤ nextHop (pathAt t i) → listensAt (pathsBelow t (i + 1)) k ≡ listensAt (pathsBelow t i) k
+  unfolding listensAt
   pair-none k large =
       by-test (eqb (ownerAt t i) (k / 64))
-      (λ q. hears-more (k / 64) (k % 64) (eqb-true (ownerAt t i) (k / 64) q) ∙ rw (ne-eqb (nextHop (pathAt t i)) (k % 64) (omega arith)) (or-false (pairBelow t i k)))
+      (λ q. hears-more (k / 64) (k % 64) (eqb-true (ownerAt t i) (k / 64) q) ∙ rw (ne-eqb (nextHop (pathAt t i)) (k % 64) (omega arith)) (or-false (listensAt (pathsBelow t i) k)))
       (λ q. hears-same (k / 64) (k % 64) (eqb-false (ownerAt t i) (k / 64) q))
 
-  pub pairs-more : (marks : List Bool) (v u : ℕ) → marks ≡ tabulate (pairBelow t i) 4096 → v ≡ ownerAt t i → u ≡ nextHop (pathAt t i) → pairMarked marks v u ≡ tabulate (pairBelow t (i + 1)) 4096
+  pub pairs-more : (marks : List Bool) (v u : ℕ) → marks ≡ tabulate (listensAt (pathsBelow t i)) 4096 → v ≡ ownerAt t i → u ≡ nextHop (pathAt t i) → pairMarked marks v u ≡ tabulate (listensAt (pathsBelow t (i + 1))) 4096
   unfolding pairMarked
   pairs-more marks v u e f g =
       by-test (ltb u 64)
-      (λ q. rw (q, pairMarked) (rw (e, f, g) (mark-one (pairBelow t i) (pairBelow t (i + 1)) 4096 (64 * ownerAt t i + nextHop (pathAt t i)) (λ k l. pair-here k (rw g at (ltb-true u 64 q))))))
-      (λ q. rw (q, pairMarked) (e ∙ tabulate-ext (pairBelow t i) (pairBelow t (i + 1)) 4096 (λ k l. sym (pair-none k (rw g at (ltb-false u 64 q))))))
+      (λ q. rw (q, pairMarked) (rw (e, f, g) (mark-one (listensAt (pathsBelow t i)) (listensAt (pathsBelow t (i + 1))) 4096 (64 * ownerAt t i + nextHop (pathAt t i)) (λ k l. pair-here k (rw g at (ltb-true u 64 q))))))
+      (λ q. rw (q, pairMarked) (e ∙ tabulate-ext (listensAt (pathsBelow t i)) (listensAt (pathsBelow t (i + 1))) 4096 (λ k l. sym (pair-none k (rw g at (ltb-false u 64 q))))))
 
-pub pairs-none : (t : List ℕ) → replicate 4096 false ≡ tabulate (pairBelow t 0) 4096
-unfolding listens pathsBelow owned thoseBelow anyIn
-pairs-none t = is-tabulate (pairBelow t 0) false 4096 (replicate 4096 false) (length-replicate 4096 false) (λ k l. getD-replicate 4096 k false false l)
+pub pairs-none : (t : List ℕ) → replicate 4096 false ≡ tabulate (listensAt (pathsBelow t 0)) 4096
+unfolding listensAt listens pathsBelow owned thoseBelow anyIn
+pairs-none t = is-tabulate (listensAt (pathsBelow t 0)) false 4096 (replicate 4096 false) (length-replicate 4096 false) (λ k l. getD-replicate 4096 k false false l)
+
+-- what was gathered from all the records
+
+pub names-all : (t : List ℕ) (n : ℕ) (marks : List Bool) → n ≡ records t → marks ≡ tabulate (namedBelow t n) 64 → marks ≡ tabulate (present t) 64
+unfolding present
+names-all t n marks e f = f ∙ tabulate-ext (namedBelow t n) (present t) 64 (λ v l. ap (λ (m : ℕ). namedBelow t m v) e)
+
+pub pairs-all : (t : List ℕ) (n : ℕ) (marks : List Bool) → n ≡ records t → marks ≡ tabulate (listensAt (pathsBelow t n)) 4096 → marks ≡ tabulate (listensAt (pathsOf t)) 4096
+unfolding pathsOf
+pairs-all t n marks e f = f ∙ ap (λ (m : ℕ). tabulate (listensAt (pathsBelow t m)) 4096) e
+
+-- a pair, and the second vertex of a path
+
+pub pair-skip : (marks : List Bool) (v u : ℕ) → 64 ≤ u → marks ≡ pairMarked marks v u
+unfolding pairMarked
+pair-skip marks v u h = rw (le-ltb u 64 h, pairMarked)
+
+pub pair-store : (marks next : List Bool) (v u : ℕ) → u < 64 → next ≡ set marks (v * 64 + u) true → next ≡ pairMarked marks v u
+unfolding pairMarked
+pair-store marks next v u h e = let k : v * 64 + u ≡ 64 * v + u = omega arith in e ∙ rw (lt-ltb u 64 h, pairMarked) (rw k)
+
+pub next-none : (p q : Path) → p ≡ q → length p ≤ 1 → 0 ≡ nextHop q
+unfolding nextHop
+next-none p q e h = sym (ap (λ (r : Path). getD r 1 0) (sym e) ∙ List·getD-eq-default p 0 h)
+
+pub next-there : (p q : Path) → p ≡ q → getD p 1 0 ≡ nextHop q
+unfolding nextHop
+next-there p q e = ap (λ (r : Path). getD r 1 0) e

@@ -1,5 +1,5 @@
 -- The rules page, "The table".
-use Prim.Native.Nat.{ℕ, suc, _*_, _/_}
+use Prim.Native.Nat.{ℕ, suc, _*_, _/_, _%_}
 use mathlib.Core.Bool.{Bool, true, false, _||_}
 use mathlib.Core.List.{List, [], _∷_, map}
 use lib.ListN.{length, getD, take, drop}
@@ -83,3 +83,7 @@ first test (p ∷ ps) = elim (test p) [ true ↦ p | false ↦ first test ps ]
 -- "Vertex v listens to u if some record of v has u as its second vertex."
 unfoldable pub listens : (ℕ → List Path) → ℕ → ℕ → Bool
 listens paths v u = anyIn (λ p. eqb (nextHop p) u) (paths v)
+
+-- The same by the pair's number, 64 times v plus u.
+unfoldable pub listensAt : (ℕ → List Path) → ℕ → Bool
+listensAt paths k = listens paths (k / 64) (k % 64)

@@ -7,8 +7,8 @@ use borrow.Author.Needs.{needs}
 use lib.ListN.{length}
 use Rattle.lists.specs.Fill.{tabulate}
 use Rattle.lists.specs.FillLaws.{tabulate-length}
-use Rattle.rules.specs.Table.{records, present}
-use Rattle.rules.specs.PassLaws.{namedBelow, names-none, names-more}
+use Rattle.rules.specs.Table.{records}
+use Rattle.rules.specs.PassLaws.{namedBelow, names-none, names-more, names-all}
 use Rattle.reader.proofs.present_in.Statement.{statement}
 use Rattle.reader.proofs.present_in.Tie as tie
 
@@ -46,11 +46,7 @@ loop-again c =
     (a .loop .inv .0, omega arith, c .before .mark-all .ensures ∙ names-more _ _ _ _ (a .loop .inv .2) (c .before .before .path-at .ensures))
 
 returns : tie.Need-returns Inv-loop μ-loop
-unfolding present
-returns c =
-    let a = c .before in
-    let e : a .loop .i ≡ records (a .before .before .args .t .now) = omega arith in
-    rw (← e) (a .loop .inv .2)
+returns c = names-all _ _ _ (omega arith) (c .before .loop .inv .2)
 
 pub present-in-spec : {M : Type 1} → statement M
 present-in-spec =
