@@ -1,0 +1,52 @@
+-- `reader::faults::filler_bad` meets its contract: the part behind the path holds the unused bytes.
+-- Assumes nothing.
+use native.Mathlib.Omega.{arith}
+use borrow.Author.Needs.{needs}
+use Rattle.rules.specs.TableLaws.{filler-hit, filler-rest}
+use Rattle.reader.proofs.faults.filler_bad.Statement.{statement}
+use Rattle.reader.proofs.faults.filler_bad.Tie as tie
+
+record-at-requires : tie.Need-record-at-requires
+record-at-requires c κs = search needs
+
+hops-at-requires : tie.Need-hops-at-requires
+hops-at-requires c κs = search needs
+
+cast-from : tie.Need-cast-from
+cast-from c = omega arith
+
+add-from : tie.Need-add-from
+add-from c = omega arith
+
+sub-any-outside : tie.Need-sub-any-outside
+sub-any-outside c = omega arith
+
+part-any-outside-start : tie.Need-part-any-outside-start
+part-any-outside-start c = omega arith
+
+part-any-outside-end : tie.Need-part-any-outside-end
+part-any-outside-end c = omega arith
+
+any-outside-requires : tie.Need-any-outside-requires
+any-outside-requires c κs = search needs
+
+returns : tie.Need-returns
+returns c =
+    let k = c .before .before .before in
+    filler-hit _ _ _ _ (k .before .record-at .ensures .0) (k .hops-at .ensures) (c .before .any-outside .ensures) (c .if1 .taken)
+
+shared-slice-read-is-outside : tie.Need-shared-slice-read-is-outside
+shared-slice-read-is-outside c = omega arith
+
+is-outside-requires : tie.Need-is-outside-requires
+is-outside-requires c κs = search needs
+
+returns-2 : tie.Need-returns-2
+returns-2 c =
+    let k = c .before .before .before .before .before in
+    filler-rest _ _ _ _ (k .before .record-at .ensures .0) (k .hops-at .ensures) (c .before .before .before .any-outside .ensures) _ (c .before .before .if1 .left) (c .is-outside .ensures)
+
+pub filler-bad-spec : {M : Type 1} → statement M
+filler-bad-spec =
+    tie.close
+    (tie.spec record-at-requires hops-at-requires cast-from add-from sub-any-outside part-any-outside-start part-any-outside-end any-outside-requires returns shared-slice-read-is-outside is-outside-requires returns-2)

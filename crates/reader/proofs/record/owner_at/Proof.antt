@@ -1,0 +1,23 @@
+-- `reader::record::owner_at` meets its contract: it is byte 2 of the record.
+-- Assumes nothing.
+use mathlib.Core.Path.{ap}
+use mathlib.Core.List.{List}
+use Prim.Native.Nat.{ℕ}
+use borrow.Author.Needs.{needs}
+use lib.ListN.{getD}
+use Rattle.rules.specs.Table.{ownerOf}
+use Rattle.reader.proofs.record.owner_at.Statement.{statement}
+use Rattle.reader.proofs.record.owner_at.Tie as tie
+
+record-at-requires : tie.Need-record-at-requires
+record-at-requires c κs = search needs
+
+shared-slice-read-result : tie.Need-shared-slice-read-result
+shared-slice-read-result c = search needs
+
+returns : tie.Need-returns
+unfolding ownerOf
+returns c = ap (λ (l : List ℕ). getD l 2 0) (c .before .record-at .ensures .0)
+
+pub owner-at-spec : {M : Type 1} → statement M
+owner-at-spec = tie.close (tie.spec record-at-requires shared-slice-read-result returns)

@@ -1,0 +1,117 @@
+// Small questions about parts of a byte slice, and marks: nothing here knows a record.
+ghost use mathlib.Core.Path.{_≡_};
+ghost use mathlib.Core.Bool.{true};
+ghost use Prim.Native.Nat.{min, max};
+ghost use lib.ListN.{set};
+ghost use Rattle.lists.specs.Search.{anyIn, elem, outside, same};
+ghost use Rattle.lists.specs.Fill.{marked};
+ghost use Rattle.rules.specs.Refusals.{twice};
+
+// Whether b lies outside low to high.
+pub(crate) fn is_outside(low: u8, high: u8, b: u8) -> bool
+    ensures { λ r. ⌜ r ≡ outside low high b ⌝ }
+{
+    if b < low {
+        return true;
+    }
+    high < b
+}
+
+// Whether some byte of the part lies outside low to high.
+pub(crate) fn any_outside(low: u8, high: u8, part: &[u8]) -> bool
+    ensures { λ r. ⌜ r ≡ anyIn (outside low high) (now (part .entry)) ⌝ }
+{
+    let mut i = 0;
+    while i < part.len() {
+        if is_outside(low, high, part[i]) {
+            return true;
+        }
+        i += 1;
+    }
+    false
+}
+
+// Whether v stands in the part.
+pub(crate) fn occurs(v: u8, part: &[u8]) -> bool
+    ensures { λ r. ⌜ r ≡ elem v (now (part .entry)) ⌝ }
+{
+    let mut i = 0;
+    while i < part.len() {
+        if part[i] == v {
+            return true;
+        }
+        i += 1;
+    }
+    false
+}
+
+// Whether some vertex stands twice in the part.
+pub(crate) fn has_twice(part: &[u8]) -> bool
+    ensures { λ r. ⌜ r ≡ twice (now (part .entry)) ⌝ }
+{
+    let mut i = 0;
+    while i < part.len() {
+        let next = i + 1;
+        if occurs(part[i], &part[next..]) {
+            return true;
+        }
+        i = next;
+    }
+    false
+}
+
+// Whether two parts are the same.
+pub(crate) fn same_parts(a: &[u8], b: &[u8]) -> bool
+    ensures { λ r. ⌜ r ≡ same (now (a .entry)) (now (b .entry)) ⌝ }
+{
+    if a.len() != b.len() {
+        return false;
+    }
+    let mut i = 0;
+    while i < a.len() {
+        if a[i] != b[i] {
+            return false;
+        }
+        i += 1;
+    }
+    true
+}
+
+// Marks a place, where there is one.
+pub(crate) fn mark(marks: &mut [bool], at: usize)
+    ensures { λ r. ⌜ now (marks .exit) ≡ set (now (marks .entry)) at true ⌝ }
+{
+    if marks.len() <= at {
+        return;
+    }
+    marks[at] = true;
+}
+
+// Marks every vertex of a path.
+pub(crate) fn mark_all(marks: &mut [bool], path: &[u8])
+    ensures { λ r. ⌜ now (marks .exit) ≡ marked (now (marks .entry)) (now (path .entry)) ⌝ }
+{
+    let mut k = 0;
+    while k < path.len() {
+        mark(marks, path[k] as usize);
+        k += 1;
+    }
+}
+
+pub(crate) fn larger(a: u8, b: u8) -> u8
+    ensures { λ r. ⌜ r ≡ max a b ⌝ }
+{
+    if a < b {
+        return b;
+    }
+    a
+}
+
+pub(crate) fn at_most(n: usize, most: usize) -> usize
+    ensures { λ r. ⌜ r ≡ min n most ⌝ }
+{
+    if most < n {
+        return most;
+    }
+    n
+}
