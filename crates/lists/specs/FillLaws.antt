@@ -1,15 +1,15 @@
 -- Laws of lists made from the front: lengths, elements, blocks, what a store changes, and padding.
 use mathlib.Core.Path.{_≡_, refl, sym, ap, _∙_}
-use mathlib.Core.Bool.{Bool, true, false, _||_, or-true, or-false, or-assoc}
+use mathlib.Core.Bool.{Bool, true, _||_, or-true, or-false, or-assoc}
 use mathlib.Core.List.{List, [], _∷_, _++_, map}
-use Prim.Native.Nat.{ℕ, zero, suc, _+_, _*_, _<_, _≤_, min}
+use Prim.Native.Nat.{ℕ, zero, suc, _+_, _*_, _<_, _≤_}
 use native.Mathlib.Omega.{arith}
 use native.Mathlib.Nat.{not-suc-le-zero, mul-suc, mul-le-mul-left}
 use lib.ListN.{length, getD, take, drop, set, replicate, length-append, length-take, length-drop, length-replicate, List·getD-append, length-set, drop-of-length-le}
 use native.Mathlib.Numerals.{add-one}
-use lib.Seq.{getD-append-seam, set-append-left, set-at, ext-getD, getD-at, take-append-le, take-append-seam, take-all, drop-append-le, getD-set-same, getD-set-other, take-at, drop-at, set-out, drop-cons, getD-take}
+use lib.Seq.{ext-getD, getD-at, take-append-le, take-all, drop-append-le, getD-set-same, getD-set-other, drop-at, drop-cons, getD-take}
 use lib.Dec.{eqb}
-use borrow.Author.Tests.{eqb-true, eqb-false, eq-eqb, ne-eqb}
+use borrow.Author.Tests.{eqb-true, eqb-false}
 use Rattle.lists.specs.Search.{elem}
 use Rattle.lists.specs.Fill.{tabulate, blocks, padded, marked}
 use Rattle.lists.specs.Tests.{by-test}

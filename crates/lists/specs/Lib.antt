@@ -10,3 +10,4 @@ pub mod FoldLaws
 pub mod Parts
 pub mod PlaceLaws
 pub mod MoreLaws
+pub mod TwiceLaws

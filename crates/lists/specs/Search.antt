@@ -44,6 +44,11 @@ module _ {A : Type 0} where
 unfoldable pub elem : ℕ → List ℕ → Bool
 elem n = anyIn (eqb n)
 
+-- whether some number stands twice in a list
+unfoldable pub twice : List ℕ → Bool
+twice [] = false
+twice (x ∷ xs) = elem x xs || twice xs
+
 -- whether two lists of numbers are the same
 unfoldable pub same : List ℕ → List ℕ → Bool
 same [] [] = true

@@ -4,15 +4,15 @@ ghost use Prim.Native.Nat.{_+_, _≤_, _<_};
 ghost use Rattle.rules.specs.Table.{records, recordAt, hopsAt};
 ghost use Rattle.rules.specs.Refusals.{hopsBad, vertexBad, fillerBad, twiceBad, lastBad, ownerBad, rankDue, rankBad, pathBad, fault};
 ghost use Rattle.rules.specs.TableLaws.{Orderly};
-use crate::parts::any_outside;
-use crate::parts::has_twice;
-use crate::parts::is_outside;
-use crate::parts::same_parts;
 use crate::record::hops_at;
 use crate::record::owner_at;
 use crate::record::path_at;
 use crate::record::rank_at;
 use crate::record::record_at;
+use parts::any_outside;
+use parts::has_twice;
+use parts::is_outside;
+use parts::same_parts;
 
 // Refusal 4.
 pub(crate) fn hops_bad(t: &[u8], i: usize) -> bool

@@ -1,7 +1,6 @@
 // The reader of path tables: accepted, or refused with number and place.
 pub mod facts;
 mod faults;
-mod parts;
 mod record;
 
 ghost use mathlib.Core.Path.{_≡_};

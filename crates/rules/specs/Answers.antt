@@ -9,9 +9,9 @@ use lib.Dec.{ltb}
 use Rattle.lists.specs.Search.{firstIn, outside}
 use Rattle.rules.specs.Table.{Path, pathsOf, listens}
 use Rattle.rules.specs.Refusals.{Refusal, refusal}
-use Rattle.rules.specs.Report.{Report, report}
+use Rattle.rules.specs.Report.{report}
 use Rattle.rules.specs.Machine.{Pair, heardFault, step, movement}
-use Rattle.rules.specs.Run.{Tally, pairsIn, run}
+use Rattle.rules.specs.Run.{pairsIn, run}
 
 -- a refusal where the test holds
 unfoldable pub refusedIf : Bool → ℕ → Option Refusal

@@ -1,17 +1,17 @@
 -- The rules page, "Tables tried by hand": the nine starred cases and two tables with a router in two blocks, as one list and one statement about the definitions.
-use Prim.Native.Nat.{ℕ, zero, suc, pred, _*_}
+use Prim.Native.Nat.{ℕ, suc, pred, _*_}
 use mathlib.Core.Path.{_≡_, refl}
-use mathlib.Core.Bool.{Bool, true, false, not, _&&_}
+use mathlib.Core.Bool.{true, false, not, _&&_}
 use mathlib.Core.List.{List, [], _∷_, _++_, map}
-use mathlib.Core.Option.{Option, none, some}
+use mathlib.Core.Option.{none, some}
 use lib.ListN.{length, take, drop, replicate}
 use lib.IntN.{ℤ, pos, negsuc}
 use lib.Dec.{eqb}
-use Rattle.lists.specs.Search.{outside, firstFrom, anyBelow, countBelow, thoseBelow, anyIn, firstIn, elem, same, maxBelow}
+use Rattle.lists.specs.Search.{outside, firstFrom, anyBelow, countBelow, thoseBelow, anyIn, firstIn, elem, same, maxBelow, twice}
 use Rattle.lists.specs.Fill.{tabulate, blocks, padded}
 use Rattle.lists.specs.Fold.{foldLeft}
 use Rattle.rules.specs.Table.{Path, recordAt, records, rankOf, hopsOf, pathOf, ownerOf, owned, pathsBelow, pathsOf, present, longest, nextHop, rest, first, listens}
-use Rattle.rules.specs.Refusals.{Refusal, hopsBad, vertexBad, unusedOf, fillerBad, twice, twiceBad, lastBad, ownerBad, rankDue, rankBad, pathBad, inRecord, rule, recordRules, firstBroken, fault, faulty, firstBad, tooLong, ragged, refusal}
+use Rattle.rules.specs.Refusals.{hopsBad, vertexBad, unusedOf, fillerBad, twiceBad, lastBad, ownerBad, rankDue, rankBad, pathBad, inRecord, rule, recordRules, firstBroken, fault, faulty, firstBad, tooLong, ragged, refusal}
 use Rattle.rules.specs.Greedy.{isSettled, compatible, atStart, best, judged, stage, settledList, settled, enters, quiet, stageCount, stageOf, stuckIn, follows, fromVertex, beforeVertex, closedPart, lowestOf, turned, ringFrom}
 use Rattle.rules.specs.Stable.{extends, bestGiven}
 use Rattle.rules.specs.Report.{Report, placeIn, rankIn, rowBytes, row, report}

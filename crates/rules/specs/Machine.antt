@@ -1,12 +1,12 @@
 -- The rules page, "The machine", down to the movement of a step, over the permitted paths of each vertex and the 4,096 heard bytes.
 use Prim.Native.Nat.{ℕ, zero, suc, _+_, _-_, _*_, _/_, _%_}
-use mathlib.Core.Bool.{Bool, true, false, not, _&&_, _||_}
+use mathlib.Core.Bool.{Bool, true, false, not, _||_}
 use mathlib.Core.List.{List, [], _∷_}
-use mathlib.Core.Option.{Option, none, some}
+use mathlib.Core.Option.{Option, none}
 use lib.ListN.{length, getD, set}
 use lib.Dec.{eqb, ltb}
 use lib.IntN.{ℤ, pos, _-ℤ_}
-use Rattle.lists.specs.Search.{firstIn, outside}
+use Rattle.lists.specs.Search.{firstIn}
 use Rattle.rules.specs.Table.{Path, listens}
 use Rattle.rules.specs.Stable.{bestGiven}
 use Rattle.rules.specs.Report.{placeIn, rankIn}

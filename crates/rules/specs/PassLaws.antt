@@ -1,8 +1,8 @@
 -- Laws of one pass through a table: what the slots, the marks and the greatest hops are after one record more.
 use mathlib.Core.Path.{_≡_, refl, sym, ap, _∙_}
-use mathlib.Core.Bool.{Bool, true, false, _||_, _&&_, or-assoc, or-false}
+use mathlib.Core.Bool.{Bool, true, false, _||_, or-assoc, or-false}
 use mathlib.Core.List.{List, [], _∷_, _++_, map}
-use Prim.Native.Nat.{ℕ, zero, suc, _+_, _-_, _*_, _/_, _%_, _<_, _≤_, min, max}
+use Prim.Native.Nat.{ℕ, _+_, _*_, _/_, _%_, _<_, _≤_, min, max}
 use native.Mathlib.Omega.{arith}
 use native.Mathlib.Numerals.{add-one}
 use lib.ListN.{length, getD, set, replicate, length-append, length-replicate, getD-replicate, List·getD-eq-default}
@@ -10,7 +10,7 @@ use lib.Dec.{eqb, ltb}
 use borrow.Author.Tests.{eqb-true, eqb-false, eq-eqb, ne-eqb, ltb-true, ltb-false, lt-ltb, le-ltb}
 use Rattle.lists.specs.Search.{anyBelow, anyIn, elem, maxBelow, thoseBelow}
 use Rattle.lists.specs.Fill.{padded, tabulate, marked}
-use Rattle.lists.specs.SearchLaws.{max-suc, any-append, any-cons, any-nil, eqb-same, any-below-suc, those-in, those-out, those-none}
+use Rattle.lists.specs.SearchLaws.{max-suc, any-append, any-cons, any-nil, eqb-same, any-below-suc, those-in, those-out}
 use Rattle.lists.specs.FillLaws.{is-tabulate, mark-one, map-append, tabulate-ext, tabulate-set, tabulate-at, mark-list, padded-more, padded-full}
 use Rattle.lists.specs.Tests.{by-test}
 use Rattle.rules.specs.Table.{Path, records, pathAt, hopsAt, ownerAt, owned, pathsBelow, pathsOf, present, slotsOf, nextHop, listens, listensAt}

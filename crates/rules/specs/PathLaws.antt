@@ -7,12 +7,11 @@ use Prim.Native.Nat.{ℕ, zero, suc, _<_, _≤_}
 use native.Mathlib.Omega.{arith}
 use native.Mathlib.Nat.{not-suc-le-zero}
 use lib.ListN.{length, getD}
-use Rattle.lists.specs.Search.{elem, same}
+use Rattle.lists.specs.Search.{elem, same, twice}
 use Rattle.lists.specs.SearchLaws.{elem-at, same-refl, same-eq, differ, differs}
 use Rattle.lists.specs.Tests.{true≢, or-false, by-test}
 use Rattle.lists.specs.PlaceLaws.{by-number}
 use Rattle.rules.specs.Table.{Path, first}
-use Rattle.rules.specs.Refusals.{twice}
 use Rattle.rules.specs.Report.{placeIn}
 
 -- p stands in ps, at a place counted from 0

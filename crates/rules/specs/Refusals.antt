@@ -5,8 +5,8 @@ use mathlib.Core.List.{List, [], _∷_}
 use mathlib.Core.Option.{Option, none, some}
 use lib.ListN.{length, getD, take, drop}
 use lib.Dec.{eqb, ltb}
-use Rattle.lists.specs.Search.{anyBelow, anyIn, elem, firstFrom, outside, same}
-use Rattle.rules.specs.Table.{Path, records, recordAt, rankOf, hopsOf, pathOf, rankAt, pathAt, ownerAt}
+use Rattle.lists.specs.Search.{anyBelow, anyIn, firstFrom, outside, same, twice}
+use Rattle.rules.specs.Table.{records, recordAt, hopsOf, pathOf, rankAt, pathAt, ownerAt}
 
 -- A refusal is a number and a place.
 pub record Refusal : Type 0 where
@@ -29,10 +29,6 @@ unfoldable pub fillerBad : List ℕ → Bool
 fillerBad r = anyIn (outside 255 255) (unusedOf r) || outside 0 0 (getD r 15 0)
 
 -- "7: a vertex twice in the path"
-unfoldable pub twice : Path → Bool
-twice [] = false
-twice (v ∷ p) = elem v p || twice p
-
 unfoldable pub twiceBad : List ℕ → Bool
 twiceBad r = twice (pathOf r)
 

@@ -10,14 +10,13 @@ use native.Mathlib.Nat.{not-suc-le-zero}
 use lib.ListN.{length, getD, take, drop}
 use lib.Dec.{eqb, ltb}
 use borrow.Author.Tests.{eqb-true, eqb-false, eq-eqb, ne-eqb, ltb-true, ltb-false}
-use Rattle.lists.specs.Search.{elem, firstFrom}
+use Rattle.lists.specs.Search.{elem, firstFrom, twice}
 use Rattle.lists.specs.SearchLaws.{Found, first-found, first-none, elem-at, elem-place}
 use Rattle.lists.specs.Tests.{by-test, true≢, and-true, both, not-true, or-false}
 use Rattle.lists.specs.Fill.{tabulate}
 use Rattle.lists.specs.FillLaws.{tabulate-length, tabulate-at, tabulate-ext}
 use Rattle.lists.specs.MoreLaws.{by-option, none≢some, first-passing, pigeonhole, tabulate-add, tabulate-take, tabulate-drop, tabulate-elem, tabulate-place}
 use Rattle.rules.specs.Table.{Path, nextHop}
-use Rattle.rules.specs.Refusals.{twice}
 use Rattle.rules.specs.Greedy.{Settled, isSettled, compatible, best, judged, settled, stageCount, stuckIn, follows, fromVertex, beforeVertex, closedPart, lowestOf, turned, ringFrom}
 use Rattle.rules.specs.Shape.{Permitted, Shaped}
 use Rattle.rules.specs.GreedyLaws.{first-cases, is-none, stage-judges, settled-origin, quiet-stage, stages-quiet}

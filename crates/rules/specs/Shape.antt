@@ -5,7 +5,7 @@ use mathlib.Core.List.{List, []}
 use Prim.Native.Nat.{ℕ, pred, _<_, _≤_}
 use lib.ListN.{length, getD}
 use Rattle.rules.specs.Table.{Path}
-use Rattle.rules.specs.Refusals.{twice}
+use Rattle.lists.specs.Search.{twice}
 
 -- a permitted path of v
 pub record Permitted (present : ℕ → Bool) (v : ℕ) (p : Path) : Type 0 where

@@ -1,42 +1,21 @@
 -- Laws of the refusals: what a record without fault keeps to, and that the records of one owner stand in one block.
-use mathlib.Core.Path.{_≡_, refl, sym, ap, _∙_, subst}
-use mathlib.Core.Bool.{Bool, true, false, not, _||_}
-use mathlib.Core.List.{List, [], _∷_, _++_}
+use mathlib.Core.Path.{_≡_, refl, sym, ap, _∙_}
+use mathlib.Core.Bool.{Bool, true, false, not}
+use mathlib.Core.List.{List, _∷_}
 use mathlib.Core.Option.{Option, none, some}
-use Prim.Native.Nat.{ℕ, zero, suc, _+_, _-_, _*_, _/_, _%_, _<_, _≤_, min}
+use Prim.Native.Nat.{ℕ, zero, suc, _+_, _-_, _*_, _%_, _<_, _≤_, min}
 use native.Mathlib.Omega.{arith}
 use native.Mathlib.Nat.{not-suc-le-zero}
 use native.Mathlib.Numerals.{add-one}
-use lib.ListN.{length, getD, take, drop, drop-of-length-le, length-take, length-drop}
-use lib.Seq.{drop-cons, getD-take, getD-drop, take-all}
+use lib.ListN.{length, getD, take, drop, length-take, length-drop}
+use lib.Seq.{getD-take, getD-drop, take-all}
 use lib.Dec.{eqb, ltb}
 use borrow.Author.Tests.{eqb-true, eqb-false, eq-eqb, ne-eqb, ltb-true, ltb-false, lt-ltb, le-ltb}
-use Rattle.lists.specs.Search.{anyBelow, anyIn, elem, firstFrom, outside, same}
-use Rattle.lists.specs.Tests.{true≢, by-test, or-false, or-left, inside, is-inside, above-out, not-false, neither}
-use Rattle.lists.specs.SearchLaws.{first-none, first-hit, first-miss, first-end, elem-cons, none-below, differ, all-fail, any-below, any-below-suc}
-use Rattle.lists.specs.Parts.{part-to-end}
-use Rattle.rules.specs.Table.{Path, records, recordAt, rankOf, hopsOf, pathOf, ownerOf, rankAt, hopsAt, pathAt, ownerAt}
-use Rattle.rules.specs.Refusals.{Refusal, Rule, unusedOf, rule, inRecord, recordRules, firstBroken, fault, faulty, firstBad, tooLong, ragged, refusal, hopsBad, vertexBad, fillerBad, twice, twiceBad, lastBad, ownerBad, rankDue, rankBad, pathBad}
-
--- a vertex twice, in a scan that has come to i
-
-twice-drop : (p : Path) (i : ℕ) → i < length p → twice (drop i p) ≡ elem (getD p i 0) (drop (suc i) p) || twice (drop (suc i) p)
-unfolding twice
-twice-drop p i h = rw (drop-cons p i 0 h)
-
-module _ (p : Path) (i : ℕ) (come : twice (drop i p) ≡ twice p) (h : i < length p) (b : Bool) (look : b ≡ elem (getD p i 0) (take (length p - (i + 1)) (drop (i + 1) p))) where
-  seen-later : elem (getD p i 0) (drop (suc i) p) ≡ b
-  seen-later = rw (← add-one, ← part-to-end) (sym look)
-
-  pub twice-hit : b ≡ true → true ≡ twice p
-  twice-hit e = sym (or-left (elem (getD p i 0) (drop (suc i) p)) (twice (drop (suc i) p)) (seen-later ∙ e)) ∙ sym (twice-drop p i h) ∙ come
-
-  pub twice-next : b ≡ false → twice (drop (i + 1) p) ≡ twice p
-  twice-next e = rw add-one (sym (twice-drop p i h ∙ rw (seen-later ∙ e)) ∙ come)
-
-pub twice-end : (p : Path) (i : ℕ) → twice (drop i p) ≡ twice p → length p ≤ i → false ≡ twice p
-unfolding twice
-twice-end p i come h = rw (drop-of-length-le p h) at come
+use Rattle.lists.specs.Search.{anyBelow, anyIn, firstFrom, outside, same}
+use Rattle.lists.specs.Tests.{by-test, or-false, or-left, inside, is-inside, above-out, not-false, neither}
+use Rattle.lists.specs.SearchLaws.{first-hit, first-miss, first-end, differ, all-fail, any-below, any-below-suc}
+use Rattle.rules.specs.Table.{Path, records, recordAt, hopsOf, pathOf, ownerOf, rankAt, hopsAt, pathAt, ownerAt}
+use Rattle.rules.specs.Refusals.{Refusal, Rule, unusedOf, rule, inRecord, recordRules, firstBroken, fault, faulty, firstBad, tooLong, ragged, refusal, hopsBad, vertexBad, fillerBad, twiceBad, lastBad, ownerBad, rankDue, rankBad, pathBad}
 
 -- the rules in order
 

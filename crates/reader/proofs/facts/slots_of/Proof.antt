@@ -1,10 +1,10 @@
 -- `reader::facts::slots_of` meets its contract: each record of a vertex takes its next slot.
 -- Assumes nothing.
-use mathlib.Core.Path.{_≡_, refl, sym, _∙_}
+use mathlib.Core.Path.{_≡_, refl}
 use Prim.Native.Nat.{_≤_, _-_, min}
 use native.Mathlib.Omega.{arith}
 use borrow.Author.Needs.{needs}
-use Rattle.rules.specs.Table.{records, slotsOf}
+use Rattle.rules.specs.Table.{records}
 use Rattle.rules.specs.PassLaws.{Slotted, slots-skip, slots-full, slots-store, slots-none}
 use Rattle.reader.proofs.facts.slots_of.Statement.{statement}
 use Rattle.reader.proofs.facts.slots_of.Tie as tie

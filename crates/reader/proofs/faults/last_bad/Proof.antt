@@ -1,10 +1,9 @@
 -- `reader::faults::last_bad` meets its contract: it is the byte behind the hops.
 -- Assumes nothing.
-use mathlib.Core.Path.{_≡_, refl, sym, ap, _∙_}
+use mathlib.Core.Path.{_≡_}
 use native.Mathlib.Omega.{arith}
 use borrow.Author.Needs.{needs}
 use Prim.Native.Nat.{_+_}
-use Rattle.lists.specs.Search.{outside}
 use Rattle.rules.specs.Table.{hopsAt}
 use Rattle.rules.specs.Refusals.{lastBad}
 use Rattle.reader.proofs.faults.last_bad.Statement.{statement}

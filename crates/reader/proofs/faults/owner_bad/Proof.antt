@@ -1,7 +1,5 @@
 -- `reader::faults::owner_bad` meets its contract: the two tests are those of the definition.
 -- Assumes nothing.
-use mathlib.Core.Path.{_≡_, refl, sym, ap, _∙_}
-use native.Mathlib.Omega.{arith}
 use borrow.Author.Needs.{needs}
 use Rattle.rules.specs.Refusals.{ownerBad}
 use Rattle.rules.specs.TableLaws.{owner-bad-later}

@@ -2,7 +2,7 @@
 -- Assumes nothing.
 use mathlib.Core.Path.{_∙_, ap}
 use borrow.Author.Needs.{needs}
-use Rattle.rules.specs.Refusals.{twice}
+use Rattle.lists.specs.Search.{twice}
 use Rattle.rules.specs.Refusals.{twiceBad}
 use Rattle.reader.proofs.faults.twice_bad.Statement.{statement}
 use Rattle.reader.proofs.faults.twice_bad.Tie as tie

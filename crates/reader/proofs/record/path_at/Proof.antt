@@ -1,6 +1,5 @@
 -- `reader::record::path_at` meets its contract: the part from byte 2 on is the path.
 -- Assumes nothing.
-use mathlib.Core.Path.{_≡_, refl, sym, ap, _∙_}
 use native.Mathlib.Omega.{arith}
 use borrow.Author.Needs.{needs}
 use Rattle.rules.specs.TableLaws.{path-part}

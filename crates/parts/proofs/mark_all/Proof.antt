@@ -1,4 +1,4 @@
--- `reader::parts::mark_all` meets its contract: what is left to mark from k on tells the marks.
+-- `parts::mark_all` meets its contract: what is left to mark from k on tells the marks.
 -- Assumes nothing.
 use mathlib.Core.Path.{_≡_, refl, sym, _∙_}
 use Prim.Native.Nat.{_≤_, _-_}
@@ -7,8 +7,8 @@ use borrow.Author.Needs.{needs}
 use lib.ListN.{length, drop}
 use Rattle.lists.specs.Fill.{marked}
 use Rattle.lists.specs.FillLaws.{marked-next, marked-end}
-use Rattle.reader.proofs.parts.mark_all.Statement.{statement}
-use Rattle.reader.proofs.parts.mark_all.Tie as tie
+use Rattle.parts.proofs.mark_all.Statement.{statement}
+use Rattle.parts.proofs.mark_all.Tie as tie
 
 abbrev Inv-loop : tie.InvT-loop
 Inv-loop marks₀ path k₀ marks k = (k ≤ length path) × (length marks ≡ length marks₀) × (marked marks (drop k path) ≡ marked marks₀ path)

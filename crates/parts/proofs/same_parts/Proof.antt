@@ -1,13 +1,13 @@
--- `reader::parts::same_parts` meets its contract: what is left from i on of both tells the answer.
+-- `parts::same_parts` meets its contract: what is left from i on of both tells the answer.
 -- Assumes nothing.
-use mathlib.Core.Path.{_≡_, refl, sym, _∙_}
+use mathlib.Core.Path.{_≡_, refl, sym}
 use Prim.Native.Nat.{_≤_, _-_}
 use native.Mathlib.Omega.{arith}
-use lib.ListN.{length, getD, drop}
+use lib.ListN.{length, drop}
 use Rattle.lists.specs.Search.{same}
 use Rattle.lists.specs.SearchLaws.{same-lengths, same-hit, same-next, same-end}
-use Rattle.reader.proofs.parts.same_parts.Statement.{statement}
-use Rattle.reader.proofs.parts.same_parts.Tie as tie
+use Rattle.parts.proofs.same_parts.Statement.{statement}
+use Rattle.parts.proofs.same_parts.Tie as tie
 
 abbrev Inv-loop : tie.InvT-loop
 Inv-loop a b i₀ i = (i ≤ length a) × (length a ≡ length b) × (same (drop i a) (drop i b) ≡ same a b)

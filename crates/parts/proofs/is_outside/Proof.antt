@@ -1,11 +1,11 @@
--- `reader::parts::is_outside` meets its contract: the two tests are those of `outside`.
+-- `parts::is_outside` meets its contract: the two tests are those of `outside`.
 -- Assumes nothing.
 use mathlib.Core.Path.{sym}
 use borrow.Author.Tests.{le-ltb}
 use Rattle.lists.specs.Search.{outside}
 use Rattle.lists.specs.Tests.{below-out}
-use Rattle.reader.proofs.parts.is_outside.Statement.{statement}
-use Rattle.reader.proofs.parts.is_outside.Tie as tie
+use Rattle.parts.proofs.is_outside.Statement.{statement}
+use Rattle.parts.proofs.is_outside.Tie as tie
 
 returns : tie.Need-returns
 returns c = sym (below-out _ _ _ (c .if1 .taken))

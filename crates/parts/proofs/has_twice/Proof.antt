@@ -1,14 +1,14 @@
--- `reader::parts::has_twice` meets its contract: what is left from i on tells the answer.
+-- `parts::has_twice` meets its contract: what is left from i on tells the answer.
 -- Assumes nothing.
 use mathlib.Core.Path.{_≡_, refl}
 use Prim.Native.Nat.{_≤_, _-_}
 use native.Mathlib.Omega.{arith}
 use borrow.Author.Needs.{needs}
-use lib.ListN.{length, getD, drop}
-use Rattle.rules.specs.Refusals.{twice}
-use Rattle.rules.specs.TableLaws.{twice-hit, twice-next, twice-end}
-use Rattle.reader.proofs.parts.has_twice.Statement.{statement}
-use Rattle.reader.proofs.parts.has_twice.Tie as tie
+use lib.ListN.{length, drop}
+use Rattle.lists.specs.Search.{twice}
+use Rattle.lists.specs.TwiceLaws.{twice-hit, twice-next, twice-end}
+use Rattle.parts.proofs.has_twice.Statement.{statement}
+use Rattle.parts.proofs.has_twice.Tie as tie
 
 abbrev Inv-loop : tie.InvT-loop
 Inv-loop part i₀ i = (i ≤ length part) × (twice (drop i part) ≡ twice part)

@@ -3,12 +3,11 @@ ghost use mathlib.Core.Path.{_≡_};
 ghost use mathlib.Core.Bool.{true};
 ghost use Prim.Native.Nat.{min, max};
 ghost use lib.ListN.{set};
-ghost use Rattle.lists.specs.Search.{anyIn, elem, outside, same};
+ghost use Rattle.lists.specs.Search.{anyIn, elem, outside, same, twice};
 ghost use Rattle.lists.specs.Fill.{marked};
-ghost use Rattle.rules.specs.Refusals.{twice};
 
 // Whether b lies outside low to high.
-pub(crate) fn is_outside(low: u8, high: u8, b: u8) -> bool
+pub fn is_outside(low: u8, high: u8, b: u8) -> bool
     ensures { λ r. ⌜ r ≡ outside low high b ⌝ }
 {
     if b < low {
@@ -18,7 +17,7 @@ pub(crate) fn is_outside(low: u8, high: u8, b: u8) -> bool
 }
 
 // Whether some byte of the part lies outside low to high.
-pub(crate) fn any_outside(low: u8, high: u8, part: &[u8]) -> bool
+pub fn any_outside(low: u8, high: u8, part: &[u8]) -> bool
     ensures { λ r. ⌜ r ≡ anyIn (outside low high) (now (part .entry)) ⌝ }
 {
     let mut i = 0;
@@ -32,7 +31,7 @@ pub(crate) fn any_outside(low: u8, high: u8, part: &[u8]) -> bool
 }
 
 // Whether v stands in the part.
-pub(crate) fn occurs(v: u8, part: &[u8]) -> bool
+pub fn occurs(v: u8, part: &[u8]) -> bool
     ensures { λ r. ⌜ r ≡ elem v (now (part .entry)) ⌝ }
 {
     let mut i = 0;
@@ -46,7 +45,7 @@ pub(crate) fn occurs(v: u8, part: &[u8]) -> bool
 }
 
 // Whether some vertex stands twice in the part.
-pub(crate) fn has_twice(part: &[u8]) -> bool
+pub fn has_twice(part: &[u8]) -> bool
     ensures { λ r. ⌜ r ≡ twice (now (part .entry)) ⌝ }
 {
     let mut i = 0;
@@ -61,7 +60,7 @@ pub(crate) fn has_twice(part: &[u8]) -> bool
 }
 
 // Whether two parts are the same.
-pub(crate) fn same_parts(a: &[u8], b: &[u8]) -> bool
+pub fn same_parts(a: &[u8], b: &[u8]) -> bool
     ensures { λ r. ⌜ r ≡ same (now (a .entry)) (now (b .entry)) ⌝ }
 {
     if a.len() != b.len() {
@@ -78,7 +77,7 @@ pub(crate) fn same_parts(a: &[u8], b: &[u8]) -> bool
 }
 
 // Marks a place, where there is one.
-pub(crate) fn mark(marks: &mut [bool], at: usize)
+pub fn mark(marks: &mut [bool], at: usize)
     ensures { λ r. ⌜ now (marks .exit) ≡ set (now (marks .entry)) at true ⌝ }
 {
     if marks.len() <= at {
@@ -88,7 +87,7 @@ pub(crate) fn mark(marks: &mut [bool], at: usize)
 }
 
 // Marks every vertex of a path.
-pub(crate) fn mark_all(marks: &mut [bool], path: &[u8])
+pub fn mark_all(marks: &mut [bool], path: &[u8])
     ensures { λ r. ⌜ now (marks .exit) ≡ marked (now (marks .entry)) (now (path .entry)) ⌝ }
 {
     let mut k = 0;
@@ -98,7 +97,7 @@ pub(crate) fn mark_all(marks: &mut [bool], path: &[u8])
     }
 }
 
-pub(crate) fn larger(a: u8, b: u8) -> u8
+pub fn larger(a: u8, b: u8) -> u8
     ensures { λ r. ⌜ r ≡ max a b ⌝ }
 {
     if a < b {
@@ -107,7 +106,7 @@ pub(crate) fn larger(a: u8, b: u8) -> u8
     a
 }
 
-pub(crate) fn at_most(n: usize, most: usize) -> usize
+pub fn at_most(n: usize, most: usize) -> usize
     ensures { λ r. ⌜ r ≡ min n most ⌝ }
 {
     if most < n {

@@ -1,14 +1,14 @@
--- `reader::parts::any_outside` meets its contract: what is left from i on tells the answer.
+-- `parts::any_outside` meets its contract: what is left from i on tells the answer.
 -- Assumes nothing.
 use mathlib.Core.Path.{_≡_, refl, sym, _∙_}
 use Prim.Native.Nat.{_≤_, _-_}
 use native.Mathlib.Omega.{arith}
 use borrow.Author.Needs.{needs}
-use lib.ListN.{length, getD, drop}
+use lib.ListN.{length, drop}
 use Rattle.lists.specs.Search.{anyIn, outside}
 use Rattle.lists.specs.SearchLaws.{scan-hit, scan-next, scan-end}
-use Rattle.reader.proofs.parts.any_outside.Statement.{statement}
-use Rattle.reader.proofs.parts.any_outside.Tie as tie
+use Rattle.parts.proofs.any_outside.Statement.{statement}
+use Rattle.parts.proofs.any_outside.Tie as tie
 
 abbrev Inv-loop : tie.InvT-loop
 Inv-loop low high part i₀ i = (i ≤ length part) × (anyIn (outside low high) (drop i part) ≡ anyIn (outside low high) part)

@@ -1,15 +1,15 @@
--- `reader::parts::occurs` meets its contract: what is left from i on tells the answer.
+-- `parts::occurs` meets its contract: what is left from i on tells the answer.
 -- Assumes nothing.
-use mathlib.Core.Path.{_≡_, refl, sym, _∙_}
+use mathlib.Core.Path.{_≡_, refl, sym}
 use Prim.Native.Nat.{_≤_, _-_}
 use native.Mathlib.Omega.{arith}
 use borrow.Author.Tests.{eq-eqb, ne-eqb}
-use lib.ListN.{length, getD, drop}
+use lib.ListN.{length, drop}
 use lib.Dec.{eqb}
 use Rattle.lists.specs.Search.{anyIn, elem}
 use Rattle.lists.specs.SearchLaws.{scan-hit, scan-next, scan-end}
-use Rattle.reader.proofs.parts.occurs.Statement.{statement}
-use Rattle.reader.proofs.parts.occurs.Tie as tie
+use Rattle.parts.proofs.occurs.Statement.{statement}
+use Rattle.parts.proofs.occurs.Tie as tie
 
 abbrev Inv-loop : tie.InvT-loop
 Inv-loop v part i₀ i = (i ≤ length part) × (anyIn (eqb v) (drop i part) ≡ anyIn (eqb v) part)

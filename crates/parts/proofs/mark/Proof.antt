@@ -1,10 +1,10 @@
--- `reader::parts::mark` meets its contract: a store past the end changes nothing.
+-- `parts::mark` meets its contract: a store past the end changes nothing.
 -- Assumes nothing.
 use mathlib.Core.Path.{sym}
 use borrow.Author.Needs.{needs}
 use lib.Seq.{set-out}
-use Rattle.reader.proofs.parts.mark.Statement.{statement}
-use Rattle.reader.proofs.parts.mark.Tie as tie
+use Rattle.parts.proofs.mark.Statement.{statement}
+use Rattle.parts.proofs.mark.Tie as tie
 
 returns : tie.Need-returns
 returns c = sym (set-out _ _ _ (c .if1 .taken))
