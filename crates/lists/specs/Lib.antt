@@ -11,3 +11,4 @@ pub mod Parts
 pub mod PlaceLaws
 pub mod MoreLaws
 pub mod TwiceLaws
+pub mod RangeLaws

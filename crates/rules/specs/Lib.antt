@@ -19,3 +19,4 @@ pub mod GreedyLaws
 pub mod RingLaws
 pub mod ReportLaws
 pub mod PassLaws
+pub mod Accepted

@@ -1,0 +1,45 @@
+-- Laws of a range of numbers: those of a range that pass a test, and a map over a list by its elements.
+use mathlib.Core.Path.{_≡_, refl, sym, ap, _∙_}
+use mathlib.Core.Bool.{Bool, true, false}
+use mathlib.Core.List.{List, [], _∷_, _++_, map}
+use Prim.Native.Nat.{ℕ, zero, suc, _+_, _<_, _≤_}
+use native.Mathlib.Omega.{arith}
+use native.Mathlib.Nat.{not-suc-le-zero}
+use lib.ListN.{length, getD}
+use lib.Dec.{eqb}
+use borrow.Author.Tests.{eqb-true, eqb-false}
+use Rattle.lists.specs.Search.{thoseBelow}
+use Rattle.lists.specs.Fill.{tabulate}
+use Rattle.lists.specs.Tests.{by-test}
+use Rattle.lists.specs.SearchLaws.{those-in, those-out, those-none}
+use Rattle.lists.specs.FillLaws.{tabulate-none, tabulate-suc}
+
+those-empty : (test : ℕ → Bool) (n : ℕ) → ((i : ℕ) → i < n → test i ≡ false) → thoseBelow test n ≡ []
+those-empty test zero f = those-none test
+those-empty test (suc n) f = those-out test n (f n (omega arith)) ∙ those-empty test n (λ i h. f i (omega arith))
+
+-- where just the numbers from start on pass, size of them, those are the ones
+pub those-range :
+    (test : ℕ → Bool) (start n size : ℕ) →
+    start + size ≤ n →
+    ((i : ℕ) → start ≤ i → i < start + size → test i ≡ true) →
+    ((i : ℕ) → i < n → test i ≡ true → (start ≤ i) × (i < start + size)) →
+    thoseBelow test n ≡ tabulate (λ k. start + k) size
+those-range test start n zero h p q =
+    those-empty test n (λ i l. by-test (test i) (λ e. absurd (let r = q i l e in omega arith)) (λ e. e)) ∙ sym (tabulate-none (λ k. start + k))
+those-range test start zero (suc size) h p q = absurd (omega arith)
+those-range test start (suc n) (suc size) h p q =
+    by-test (eqb (start + size) n)
+    (λ e. let last : start + size ≡ n = eqb-true (start + size) n e in
+    those-in test n (p n (omega arith) (omega arith))
+    ∙ rw (those-range test start n size (omega arith) (λ i lo hi. p i lo (omega arith)) (λ i l t. let r = q i (omega arith) t in (r .0, omega (arith, r .1))), ← last)
+    (sym (tabulate-suc (λ k. start + k) size)))
+    (λ e. let short : start + suc size ≤ n = omega (arith, eqb-false (start + size) n e) in
+    those-out test n (by-test (test n) (λ t. absurd (let r = q n (omega arith) t in omega arith)) (λ t. t))
+    ∙ those-range test start n (suc size) short p (λ i l t. q i (omega arith) t))
+
+-- an element of a map is the map of the element
+pub map-at : {A B : Type 0} (f : A → B) (l : List A) (k : ℕ) (d : A) (e : B) → k < length l → getD (map f l) k e ≡ f (getD l k d)
+map-at f [] k d e h = absurd (not-suc-le-zero h)
+map-at f (x ∷ xs) zero d e h = refl
+map-at f (x ∷ xs) (suc k) d e h = map-at f xs k d e (omega arith)
