@@ -2,9 +2,19 @@
 ghost use mathlib.Core.Path.{_≡_};
 ghost use mathlib.Core.Bool.{true};
 ghost use Prim.Native.Nat.{min, max};
-ghost use lib.ListN.{set};
+ghost use lib.ListN.{getD, set};
 ghost use Rattle.lists.specs.Search.{anyIn, elem, outside, same, twice};
 ghost use Rattle.lists.specs.Fill.{marked};
+
+// The byte at k, 0 past the end.
+pub fn byte_at(part: &[u8], k: usize) -> u8
+    ensures { λ r. ⌜ r ≡ getD (now (part .entry)) k 0 ⌝ }
+{
+    if part.len() <= k {
+        return 0;
+    }
+    part[k]
+}
 
 // Whether b lies outside low to high.
 pub fn is_outside(low: u8, high: u8, b: u8) -> bool

@@ -4,19 +4,19 @@ ghost use Prim.Native.Nat.{_+_, _≤_, _<_};
 ghost use Rattle.rules.specs.Table.{records, recordAt, hopsAt};
 ghost use Rattle.rules.specs.Refusals.{hopsBad, vertexBad, fillerBad, twiceBad, lastBad, ownerBad, rankDue, rankBad, pathBad, fault};
 ghost use Rattle.rules.specs.TableLaws.{Orderly};
-use crate::record::hops_at;
-use crate::record::owner_at;
-use crate::record::path_at;
-use crate::record::rank_at;
-use crate::record::record_at;
+use record::hops_at;
+use record::owner_at;
+use record::path_at;
+use record::rank_at;
+use record::record_at;
 use parts::any_outside;
+use parts::byte_at;
 use parts::has_twice;
 use parts::is_outside;
 use parts::same_parts;
 
 // Refusal 4.
 pub(crate) fn hops_bad(t: &[u8], i: usize) -> bool
-    requires { ⌜ i < records (now t) ⌝ }
     ensures { λ r. ⌜ r ≡ hopsBad (recordAt (now (t .entry)) i) ⌝ }
 {
     is_outside(1, 12, hops_at(t, i))
@@ -24,7 +24,6 @@ pub(crate) fn hops_bad(t: &[u8], i: usize) -> bool
 
 // Refusal 5.
 pub(crate) fn vertex_bad(t: &[u8], i: usize) -> bool
-    requires { ⌜ i < records (now t) ⌝ }
     ensures { λ r. ⌜ r ≡ vertexBad (recordAt (now (t .entry)) i) ⌝ }
 {
     any_outside(0, 63, path_at(t, i))
@@ -45,7 +44,6 @@ pub(crate) fn filler_bad(t: &[u8], i: usize) -> bool
 
 // Refusal 7.
 pub(crate) fn twice_bad(t: &[u8], i: usize) -> bool
-    requires { ⌜ i < records (now t) ⌝ }
     ensures { λ r. ⌜ r ≡ twiceBad (recordAt (now (t .entry)) i) ⌝ }
 {
     has_twice(path_at(t, i))
@@ -53,17 +51,14 @@ pub(crate) fn twice_bad(t: &[u8], i: usize) -> bool
 
 // Refusal 8.
 pub(crate) fn last_bad(t: &[u8], i: usize) -> bool
-    requires { ⌜ (i < records (now t)) × (hopsAt (now t) i ≤ 12) ⌝ }
     ensures { λ r. ⌜ r ≡ lastBad (recordAt (now (t .entry)) i) ⌝ }
 {
-    let r = record_at(t, i);
     let last = hops_at(t, i) as usize + 2;
-    is_outside(0, 0, r[last])
+    is_outside(0, 0, byte_at(record_at(t, i), last))
 }
 
 // Refusal 9.
 pub(crate) fn owner_bad(t: &[u8], i: usize) -> bool
-    requires { ⌜ i < records (now t) ⌝ }
     ensures { λ r. ⌜ r ≡ ownerBad (now (t .entry)) i ⌝ }
 {
     if i == 0 {
@@ -74,7 +69,6 @@ pub(crate) fn owner_bad(t: &[u8], i: usize) -> bool
 
 // The rank that record i has to bear.
 pub(crate) fn rank_due(t: &[u8], i: usize) -> u16
-    requires { ⌜ i < records (now t) ⌝ }
     ensures { λ r. ⌜ r ≡ rankDue (now (t .entry)) i ⌝ }
 {
     if i == 0 {
@@ -88,7 +82,6 @@ pub(crate) fn rank_due(t: &[u8], i: usize) -> u16
 
 // Refusal 10.
 pub(crate) fn rank_bad(t: &[u8], i: usize) -> bool
-    requires { ⌜ i < records (now t) ⌝ }
     ensures { λ r. ⌜ r ≡ rankBad (now (t .entry)) i ⌝ }
 {
     let rank = rank_at(t, i);

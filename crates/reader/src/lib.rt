@@ -1,7 +1,5 @@
 // The reader of path tables: accepted, or refused with number and place.
-pub mod facts;
 mod faults;
-mod record;
 
 ghost use mathlib.Core.Path.{_≡_};
 ghost use Rattle.rules.specs.Refusals.{refusal};

@@ -1,19 +1,20 @@
 -- Laws of the refusals: what a record without fault keeps to, and that the records of one owner stand in one block.
 use mathlib.Core.Path.{_≡_, refl, sym, ap, _∙_}
 use mathlib.Core.Bool.{Bool, true, false, not}
-use mathlib.Core.List.{List, _∷_}
+use mathlib.Core.List.{List, [], _∷_}
 use mathlib.Core.Option.{Option, none, some}
-use Prim.Native.Nat.{ℕ, zero, suc, _+_, _-_, _*_, _%_, _<_, _≤_, min}
+use Prim.Native.Nat.{ℕ, zero, suc, _+_, _-_, _*_, _%_, _<_, _≤_, min, _/_}
 use native.Mathlib.Omega.{arith}
 use native.Mathlib.Nat.{not-suc-le-zero}
 use native.Mathlib.Numerals.{add-one}
-use lib.ListN.{length, getD, take, drop, length-take, length-drop}
-use lib.Seq.{getD-take, getD-drop, take-all}
+use lib.ListN.{length, getD, take, drop, drop-of-length-le, length-take, length-drop}
+use lib.Seq.{getD-take, getD-drop, take-all, take-nil}
 use lib.Dec.{eqb, ltb}
 use borrow.Author.Tests.{eqb-true, eqb-false, eq-eqb, ne-eqb, ltb-true, ltb-false, lt-ltb, le-ltb}
 use Rattle.lists.specs.Search.{anyBelow, anyIn, firstFrom, outside, same}
 use Rattle.lists.specs.Tests.{by-test, or-false, or-left, inside, is-inside, above-out, not-false, neither}
 use Rattle.lists.specs.SearchLaws.{first-hit, first-miss, first-end, differ, all-fail, any-below, any-below-suc}
+use Rattle.lists.specs.Parts.{part-clipped}
 use Rattle.rules.specs.Table.{Path, records, recordAt, hopsOf, pathOf, ownerOf, rankAt, hopsAt, pathAt, ownerAt}
 use Rattle.rules.specs.Refusals.{Refusal, Rule, unusedOf, rule, inRecord, recordRules, firstBroken, fault, faulty, firstBad, tooLong, ragged, refusal, hopsBad, vertexBad, fillerBad, twiceBad, lastBad, ownerBad, rankDue, rankBad, pathBad}
 
@@ -154,20 +155,23 @@ pub record-length : (t : List ℕ) (i : ℕ) → i < records t → length (recor
 unfolding records recordAt
 record-length t i h = length-take 16 (drop (16 * i) t) ∙ omega (arith, length-drop (16 * i) t)
 
-pub record-part : (t : List ℕ) (i : ℕ) → take (i * 16 + 16 - i * 16) (drop (i * 16) t) ≡ recordAt t i
+pub record-part : (t : List ℕ) (i e : ℕ) → e ≡ min (i * 16 + 16) (length t) → take (e - i * 16) (drop (i * 16) t) ≡ recordAt t i
 unfolding recordAt
-record-part t i =
-    let n : i * 16 + 16 - i * 16 ≡ 16 = omega arith in
-    let at : i * 16 ≡ 16 * i = omega arith in
-    rw (n, at)
+record-part t i e q = part-clipped t (i * 16) 16 e q ∙ (let k : i * 16 ≡ 16 * i = omega arith in rw k)
+
+pub record-past : (t : List ℕ) (i : ℕ) → length t / 16 < i → [] ≡ recordAt t i
+unfolding recordAt
+record-past t i h = rw (drop-of-length-le t {i = 16 * i} (omega arith))
 
 -- its path ends with the record at the latest
-pub path-part : (r : List ℕ) → length r ≡ 16 → take (min (3 + hopsOf r) 16 - 2) (drop 2 r) ≡ pathOf r
-unfolding pathOf
-path-part r e =
-    by-test (ltb 16 (3 + hopsOf r))
-    (λ q. let l = ltb-true 16 (3 + hopsOf r) q in let k = length-drop 2 r in take-all (min (3 + hopsOf r) 16 - 2) (drop 2 r) (omega arith) ∙ sym (take-all (suc (hopsOf r)) (drop 2 r) (omega arith)))
-    (λ q. let l = ltb-false 16 (3 + hopsOf r) q in let k : min (3 + hopsOf r) 16 - 2 ≡ suc (hopsOf r) = omega arith in rw k)
+module _ (r R : List ℕ) (q : r ≡ R) where
+  pub path-part : (h e : ℕ) → h ≡ hopsOf R → e ≡ min (h + 3) (length r) → take (e - 2) (drop 2 r) ≡ pathOf R
+  unfolding pathOf
+  path-part h e k m = part-clipped r 2 (suc (hopsOf R)) e (omega arith) ∙ rw q
+
+  pub path-short : length r < 2 → [] ≡ pathOf R
+  unfolding pathOf
+  path-short h = rw (← q, drop-of-length-le r {i = 2} (omega arith)) (sym (take-nil (suc (hopsOf r))))
 
 -- its unused bytes, as the part from behind the path to byte 14
 pub unused-part : (r : List ℕ) (h : ℕ) → h ≡ hopsOf r → take (15 - (h + 3)) (drop (h + 3) r) ≡ unusedOf r

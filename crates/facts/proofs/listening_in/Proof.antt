@@ -1,4 +1,4 @@
--- `reader::facts::listening_in` meets its contract: the marks are those of the records below i.
+-- `facts::listening_in` meets its contract: the marks are those of the records below i.
 -- Assumes nothing.
 use mathlib.Core.Path.{_≡_, refl, sym, ap, _∙_}
 use Prim.Native.Nat.{_≤_, _-_}
@@ -9,8 +9,8 @@ use Rattle.lists.specs.Fill.{tabulate}
 use Rattle.lists.specs.FillLaws.{tabulate-length}
 use Rattle.rules.specs.Table.{records, pathsBelow, listensAt}
 use Rattle.rules.specs.PassLaws.{pairs-none, pairs-more, pairs-all}
-use Rattle.reader.proofs.facts.listening_in.Statement.{statement}
-use Rattle.reader.proofs.facts.listening_in.Tie as tie
+use Rattle.facts.proofs.listening_in.Statement.{statement}
+use Rattle.facts.proofs.listening_in.Tie as tie
 
 abbrev Inv-loop : tie.InvT-loop
 Inv-loop t count marks₀ i₀ marks i = (count ≡ records t) × (i ≤ count) × (marks ≡ tabulate (listensAt (pathsBelow t i)) 4096)

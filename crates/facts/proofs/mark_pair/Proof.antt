@@ -1,9 +1,9 @@
--- `reader::facts::mark_pair` meets its contract: the place of the pair is marked, where there is one.
+-- `facts::mark_pair` meets its contract: the place of the pair is marked, where there is one.
 -- Assumes nothing.
 use borrow.Author.Needs.{needs}
 use Rattle.rules.specs.PassLaws.{pair-skip, pair-store}
-use Rattle.reader.proofs.facts.mark_pair.Statement.{statement}
-use Rattle.reader.proofs.facts.mark_pair.Tie as tie
+use Rattle.facts.proofs.mark_pair.Statement.{statement}
+use Rattle.facts.proofs.mark_pair.Tie as tie
 
 returns : tie.Need-returns
 returns c = pair-skip _ _ _ (c .if1 .taken)

@@ -1,4 +1,4 @@
--- `reader::facts::longest_hops` meets its contract: the greatest hops of the records below i.
+-- `facts::longest_hops` meets its contract: the greatest hops of the records below i.
 -- Assumes nothing.
 use mathlib.Core.Path.{_≡_, refl, sym}
 use Prim.Native.Nat.{_≤_, _-_}
@@ -8,8 +8,8 @@ use Rattle.lists.specs.Search.{maxBelow}
 use Rattle.lists.specs.SearchLaws.{max-none}
 use Rattle.rules.specs.Table.{records, hopsAt, longest}
 use Rattle.rules.specs.PassLaws.{hops-more}
-use Rattle.reader.proofs.facts.longest_hops.Statement.{statement}
-use Rattle.reader.proofs.facts.longest_hops.Tie as tie
+use Rattle.facts.proofs.longest_hops.Statement.{statement}
+use Rattle.facts.proofs.longest_hops.Tie as tie
 
 abbrev Inv-loop : tie.InvT-loop
 Inv-loop t count most₀ i₀ most i = (count ≡ records t) × (i ≤ count) × (most ≡ maxBelow (hopsAt t) i)

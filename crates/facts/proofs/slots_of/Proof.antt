@@ -1,4 +1,4 @@
--- `reader::facts::slots_of` meets its contract: each record of a vertex takes its next slot.
+-- `facts::slots_of` meets its contract: each record of a vertex takes its next slot.
 -- Assumes nothing.
 use mathlib.Core.Path.{_≡_, refl}
 use Prim.Native.Nat.{_≤_, _-_, min}
@@ -6,8 +6,8 @@ use native.Mathlib.Omega.{arith}
 use borrow.Author.Needs.{needs}
 use Rattle.rules.specs.Table.{records}
 use Rattle.rules.specs.PassLaws.{Slotted, slots-skip, slots-full, slots-store, slots-none}
-use Rattle.reader.proofs.facts.slots_of.Statement.{statement}
-use Rattle.reader.proofs.facts.slots_of.Tie as tie
+use Rattle.facts.proofs.slots_of.Statement.{statement}
+use Rattle.facts.proofs.slots_of.Tie as tie
 
 abbrev Inv-loop : tie.InvT-loop
 Inv-loop t count slots₀ used₀ i₀ slots used i = (count ≡ min (records t) 1008) × (i ≤ count) × Slotted t i slots used

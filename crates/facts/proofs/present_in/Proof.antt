@@ -1,4 +1,4 @@
--- `reader::facts::present_in` meets its contract: the marks are those of the records below i.
+-- `facts::present_in` meets its contract: the marks are those of the records below i.
 -- Assumes nothing.
 use mathlib.Core.Path.{_≡_, refl, sym, ap, _∙_}
 use Prim.Native.Nat.{_≤_, _-_}
@@ -9,8 +9,8 @@ use Rattle.lists.specs.Fill.{tabulate}
 use Rattle.lists.specs.FillLaws.{tabulate-length}
 use Rattle.rules.specs.Table.{records}
 use Rattle.rules.specs.PassLaws.{namedBelow, names-none, names-more, names-all}
-use Rattle.reader.proofs.facts.present_in.Statement.{statement}
-use Rattle.reader.proofs.facts.present_in.Tie as tie
+use Rattle.facts.proofs.present_in.Statement.{statement}
+use Rattle.facts.proofs.present_in.Tie as tie
 
 abbrev Inv-loop : tie.InvT-loop
 Inv-loop t count named₀ i₀ named i = (count ≡ records t) × (i ≤ count) × (named ≡ tabulate (namedBelow t i) 64)
