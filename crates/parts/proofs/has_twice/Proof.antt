@@ -6,7 +6,7 @@ use native.Mathlib.Omega.{arith}
 use borrow.Author.Needs.{needs}
 use lib.ListN.{length, drop}
 use Rattle.lists.specs.Search.{twice}
-use Rattle.lists.specs.TwiceLaws.{twice-hit, twice-next, twice-end}
+use Rattle.lists.specs.ListLaws.{twice-hit, twice-next, twice-end}
 use Rattle.parts.proofs.has_twice.Statement.{statement}
 use Rattle.parts.proofs.has_twice.Tie as tie
 

@@ -5,7 +5,7 @@ use Prim.Native.Nat.{_≤_, _-_}
 use native.Mathlib.Omega.{arith}
 use lib.ListN.{length, drop}
 use Rattle.lists.specs.Search.{same}
-use Rattle.lists.specs.SearchLaws.{same-lengths, same-hit, same-next, same-end}
+use Rattle.lists.specs.ListLaws.{same-lengths, same-hit, same-next, same-end}
 use Rattle.parts.proofs.same_parts.Statement.{statement}
 use Rattle.parts.proofs.same_parts.Tie as tie
 
