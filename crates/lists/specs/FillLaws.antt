@@ -120,7 +120,8 @@ module _ {A : Type 0} (f : ℕ → List A) where
         let k : size * i + size ≤ size * n = rw (mul-suc size i) at (mul-le-mul-left size l) in
         let m = blocks-length n in
         rw (drop-append-le (size * i) (blocks f n) (f n) (omega arith))
-        (take-append-le size (drop (size * i) (blocks f n)) (f n) (rw (length-drop (size * i) (blocks f n)) (omega arith)) ∙ blocks-at n i l))
+        (take-append-le size (drop (size * i) (blocks f n)) (f n) (rw (length-drop (size * i) (blocks f n)) (omega arith))
+        ∙ blocks-at n i l))
 
 -- every place of a list of one element has it, past the end too where that is the default
 pub alike-at : {A : Type 0} (n i : ℕ) (x : A) → getD (replicate n x) i x ≡ x

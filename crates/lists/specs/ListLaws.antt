@@ -1,4 +1,4 @@
--- Laws of the searches through the elements of a list: whether any passes, the first that does, and of numbers: which stand in it, which twice, and whether two lists are the same.
+-- Laws of the elements of a list: whether any passes, the first that does, which numbers stand in it, which twice, and what same lists are.
 use mathlib.Core.Path.{_≡_, refl, sym, ap, _∙_}
 use mathlib.Core.Logic.{⊎-elim}
 use mathlib.Core.Bool.{Bool, true, false, _||_, or-assoc}

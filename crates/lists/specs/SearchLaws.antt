@@ -1,4 +1,4 @@
--- Laws of the searches through the numbers below a bound: the first that passes, whether any does, which and how many do, and the greatest value.
+-- Laws of the numbers below a bound: the first that passes a test, whether any does, which and how many do, and the greatest value.
 use mathlib.Core.Path.{_≡_, refl, sym, ap, _∙_}
 use mathlib.Core.Logic.{⊎-elim}
 use mathlib.Core.Bool.{Bool, true, false, not, _&&_, _||_}

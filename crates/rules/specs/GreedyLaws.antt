@@ -201,7 +201,8 @@ module _ (paths : ℕ → List Path) (present : ℕ → Bool) where
   count-grows : (k : ℕ) → ((j : ℕ) → j < k → quiet paths present j ≡ false) → k < count k
   unfolding count isSettled
   count-grows zero h =
-      let less = count-less (λ v. false) (done 0) 64 0 (omega arith) refl (rw (settled-origin 0)) (λ k l e. absurd (true≢ {b = false} e refl)) in
+      let less = count-less (λ v. false) (done 0) 64 0 (omega arith) refl (rw (settled-origin 0))
+      (λ k l e. absurd (true≢ {b = false} e refl)) in
       omega arith
   count-grows (suc k) h = omega (arith, count-grows k (λ j l. h j (omega arith)), count-rises k (h k (omega arith)))
 

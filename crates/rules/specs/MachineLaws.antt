@@ -81,7 +81,8 @@ module _ (paths : ℕ → List Path) where
     step-length = length-set heard (offsetOf p) (byteFor paths (p .speaker) (choice paths heard (p .speaker)))
 
     -- a step stores at its pair the byte of the speaker's choice
-    pub step-here : offsetOf p < length heard → getD (step paths heard p) (offsetOf p) 0 ≡ byteFor paths (p .speaker) (choice paths heard (p .speaker))
+    pub step-here : offsetOf p < length heard
+        → getD (step paths heard p) (offsetOf p) 0 ≡ byteFor paths (p .speaker) (choice paths heard (p .speaker))
     unfolding step
     step-here h = getD-set-same heard (offsetOf p) (byteFor paths (p .speaker) (choice paths heard (p .speaker))) 0 h
 
@@ -108,8 +109,9 @@ module _ (paths : ℕ → List Path) where
     unfolding offsetOf
     heard-kept s v u d =
         by-less u 64
-        (λ h. let other : 64 * v + u ≢ offsetOf p = λ e. (let r = told-apart v u (p .listener) (p .speaker) h s e in d (r .0) (r .1)) in
-        heard-in (step paths heard p) v u h ∙ ap (pathFor paths u) (step-there (64 * v + u) other) ∙ sym (heard-in heard v u h))
+        (λ h. let told = told-apart v u (p .listener) (p .speaker) h s in
+        heard-in (step paths heard p) v u h
+        ∙ ap (pathFor paths u) (step-there (64 * v + u) (λ e. d (told e .0) (told e .1))) ∙ sym (heard-in heard v u h))
         (λ h. heard-out (step paths heard p) v u h ∙ sym (heard-out heard v u h))
 
     -- a step changes the choice of its listener alone
@@ -301,7 +303,7 @@ module _ (paths : ℕ → List Path) (present : ℕ → Bool) (shaped : Shaped p
   standing-tells one two v h e =
       let a = choice paths one v in
       let b = choice paths two v in
-      let z : rankIn paths v a ≡ rankIn paths v b = standing-of-tells paths (rankIn paths v a) (rankIn paths v b) (rank-most v a) (rank-most v b) e in
+      let z = standing-of-tells paths (rankIn paths v a) (rankIn paths v b) (rank-most v a) (rank-most v b) e in
       sym (rank-tells paths one v h) ∙ rw z (rank-tells paths two v h)
 
   -- a vertex with the standing 0 has no choice, but for the destination

@@ -21,7 +21,8 @@ use Rattle.rules.specs.Shape.{Permitted, Shaped}
 use Rattle.rules.specs.PathLaws.{First, missing, found, first-cases}
 use Rattle.rules.specs.GreedyLaws.{is-none, stage-judges, settled-origin, quiet-stage, stages-quiet}
 
--- The ring: its vertices are stuck, each is followed by the next and the last by the first, they are 2 to 63, it begins at the lowest, and none stands in it twice.
+-- The ring: its vertices are stuck, each is followed by the next and the last by the first,
+-- they are 2 to 63, it begins at the lowest, and none stands in it twice.
 pub record Ring (waits : ℕ → Bool) (next : ℕ → ℕ) (ring : List ℕ) : Type 0 where
   pub stuck : (k : ℕ) → k < length ring → waits (getD ring k 0) ≡ true
   pub follows : (k : ℕ) → suc k < length ring → next (getD ring k 0) ≡ getD ring (suc k) 0
@@ -128,7 +129,8 @@ Apart next n v = (i j : ℕ) → i < j → j < n → after next i v ≢ after ne
 parted : (next : ℕ → ℕ) (n k v : ℕ)
     → k < n
     → Apart next n v
-    → (fromVertex (after next k v) (way next n v) ≡ way next (n - k) (after next k v)) × (beforeVertex (after next k v) (way next n v) ≡ way next k v)
+    → (fromVertex (after next k v) (way next n v) ≡ way next (n - k) (after next k v))
+    × (beforeVertex (after next k v) (way next n v) ≡ way next k v)
 parted next n k v h a =
     let f : ℕ → ℕ = λ j. after next j v in
     let r = from-place (f k) (way next n v) k (rw (tabulate-length f n) h) (tabulate-at f n k 0 h)

@@ -37,8 +37,11 @@ loop-less c = omega arith
 
 loop-again : tie.Need-loop-again Inv-loop μ-loop
 loop-again c =
-    let a = c .before .before .before in
-    (omega arith, scan-next _ _ 0 (a .loop .i) (a .loop .inv .1) (c .before .before .loop-test .taken) (ne-eqb _ _ (λ e. c .if1 .left (sym e))))
+    let a = c .before .before .before in (
+      omega arith,
+      scan-next _ _ 0 (a .loop .i) (a .loop .inv .1) (c .before .before .loop-test .taken)
+          (ne-eqb _ _ (λ e. c .if1 .left (sym e))),
+    )
 
 returns-2 : tie.Need-returns-2 Inv-loop μ-loop
 unfolding elem

@@ -22,7 +22,9 @@ owner-at-requires-2 : tie.Need-owner-at-requires-2
 owner-at-requires-2 c κs = search needs
 
 returns-2 : tie.Need-returns-2
-returns-2 c = sym (rank-due-new _ _ (c .before .before .before .if1 .left) (λ e. c .if2 .taken (c .before .before .owner-at .ensures ∙ e ∙ sym (c .before .owner-at2 .ensures))))
+returns-2 c =
+    sym (rank-due-new _ _ (c .before .before .before .if1 .left)
+    (λ e. c .if2 .taken (c .before .before .owner-at .ensures ∙ e ∙ sym (c .before .owner-at2 .ensures))))
 
 sub-rank-at : tie.Need-sub-rank-at
 sub-rank-at c = omega arith
@@ -44,4 +46,5 @@ returns-3 c =
 pub rank-due-spec : {M : Type 1} → statement M
 rank-due-spec =
     tie.close
-    (tie.spec returns owner-at-requires sub-owner-at owner-at-requires-2 returns-2 sub-rank-at rank-at-requires cast-result add-result returns-3)
+    (tie.spec returns owner-at-requires sub-owner-at owner-at-requires-2 returns-2 sub-rank-at rank-at-requires
+    cast-result add-result returns-3)
