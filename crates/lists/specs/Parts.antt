@@ -1,4 +1,4 @@
--- Parts of a list: from a start to an end, and to the list's end.
+-- Laws of a part of a list: from a place to the end of the list.
 use mathlib.Core.Path.{_≡_}
 use mathlib.Core.List.{List}
 use Prim.Native.Nat.{ℕ, _-_}

@@ -1,4 +1,4 @@
--- Laws of the greedy stages.
+-- Laws of the greedy stages: what a stage keeps and adds, how a vertex came to be settled, which stages count, and when each vertex settled.
 use mathlib.Core.Path.{_≡_, refl, sym, ap, _∙_, fun-ext}
 use mathlib.Core.Logic.{_≢_, _⊎_, inl, inr, ⊎-map}
 use mathlib.Core.Bool.{Bool, true, false, not}
