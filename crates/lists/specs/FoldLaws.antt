@@ -1,6 +1,9 @@
--- Laws of the fold from the left.
+-- Laws of the fold from the left: step and end, two folds one after the other, what a fold keeps, and how a part of the state goes.
 use mathlib.Core.Path.{_≡_, refl}
 use mathlib.Core.List.{List, [], _∷_, _++_}
+use Prim.Native.Nat.{ℕ, suc, _+_, _<_}
+use native.Mathlib.Omega.{arith}
+use lib.ListN.{length, getD}
 use Rattle.lists.specs.Fold.{foldLeft}
 
 module _ {A B : Type 0} (f : B → A → B) where
@@ -19,7 +22,41 @@ module _ {A B : Type 0} (f : B → A → B) where
   fold-append y (x ∷ xs) ys = fold-append (f y x) xs ys
 
   -- what every step keeps, the fold keeps
-  pub fold-keeps : (P : B → Type 0) → ((y : B) (x : A) → P y → P (f y x)) → (y : B) (xs : List A) → P y → P (foldLeft f y xs)
+  pub fold-keeps : (P : B → Type 0)
+      → ((y : B) (x : A) → P y → P (f y x))
+      → (y : B) (xs : List A)
+      → P y
+      → P (foldLeft f y xs)
   unfolding foldLeft
   fold-keeps P keep y [] h = h
   fold-keeps P keep y (x ∷ xs) h = fold-keeps P keep (f y x) xs (keep y x h)
+
+  -- what every step keeps at an element of a kind, the fold keeps over elements of that kind
+  pub fold-keeps-of : (Q : A → Type 0) (P : B → Type 0)
+      → ((y : B) (x : A) → Q x → P y → P (f y x))
+      → (d : A) (y : B) (xs : List A)
+      → ((k : ℕ) → k < length xs → Q (getD xs k d))
+      → P y
+      → P (foldLeft f y xs)
+  unfolding foldLeft
+  fold-keeps-of Q P keep d y [] all h = h
+  fold-keeps-of Q P keep d y (x ∷ xs) all h =
+      fold-keeps-of Q P keep d (f y x) xs (λ k l. all (suc k) (omega arith)) (keep y x (all 0 (omega arith)) h)
+
+  -- a part of the state that goes its own way, goes it through the fold
+  pub fold-part : {C : Type 0} (g : B → C) (h : C → A → C)
+      → ((y : B) (x : A) → g (f y x) ≡ h (g y) x)
+      → (y : B) (xs : List A)
+      → g (foldLeft f y xs) ≡ foldLeft h (g y) xs
+  unfolding foldLeft
+  fold-part g h e y [] = refl
+  fold-part g h e y (x ∷ xs) = rw (← (e y x)) (fold-part g h e (f y x) xs)
+
+  -- what grows by one at each step has grown by the length
+  pub fold-grows : (g : B → ℕ)
+      → ((y : B) (x : A) → g (f y x) ≡ suc (g y))
+      → (y : B) (xs : List A)
+      → g (foldLeft f y xs) ≡ g y + length xs
+  unfolding foldLeft
+  fold-grows g e y [] = omega arith
+  fold-grows g e y (x ∷ xs) = omega (arith, fold-grows g e (f y x) xs, e y x)

@@ -1,14 +1,14 @@
 -- Lists, numbers and tests: what the rules are written with. Nothing of routing is in here.
+-- The definitions.
 pub mod Search
 pub mod Fill
 pub mod Fold
--- the laws
+-- The laws.
 pub mod Tests
+pub mod NumberLaws
 pub mod SearchLaws
+pub mod Parts
+pub mod ListLaws
 pub mod FillLaws
 pub mod FoldLaws
-pub mod Parts
-pub mod PlaceLaws
-pub mod MoreLaws
-pub mod TwiceLaws
 pub mod RangeLaws

@@ -1,1 +1,2 @@
+-- What the contracts of the reader cite beside the rules.
 pub mod Reading

@@ -9,21 +9,18 @@ use native.Mathlib.Omega.{arith}
 use lib.ListN.{length, getD, take, drop, length-take, length-drop, length-map}
 use lib.Seq.{getD-take, getD-drop}
 use lib.Dec.{eqb, ltb}
-use borrow.Author.Tests.{eqb-true, eqb-false, eq-eqb, ltb-true, ltb-false}
+use borrow.Author.Tests.{eqb-true, eqb-false, eq-eqb, ltb-true, ltb-false, not-false}
 use Rattle.lists.specs.Search.{anyBelow, anyIn, elem, outside, same, twice}
 use Rattle.lists.specs.Fill.{tabulate}
-use Rattle.lists.specs.Tests.{by-test, inside, true≢, or-true, or-false, or-right, not-false}
-use Rattle.lists.specs.SearchLaws.{first-none, none-below, none-at, any-below, some-below, elem-at, elem-place, same-refl, differs}
+use Rattle.lists.specs.Tests.{by-test, by-equal, by-less, inside, or-cases, or-none, or-right, none≢some}
+use Rattle.lists.specs.SearchLaws.{first-none, none-below, any-below, some-below}
+use Rattle.lists.specs.ListLaws.{none-at, elem-at, elem-place, differs, twice-apart}
 use Rattle.lists.specs.FillLaws.{tabulate-at, tabulate-length}
 use Rattle.lists.specs.RangeLaws.{those-range, map-at}
 use Rattle.rules.specs.Table.{Path, records, recordAt, rankAt, hopsAt, pathAt, ownerAt, rankOf, hopsOf, pathOf, ownerOf, owned, pathsBelow, pathsOf, present}
 use Rattle.rules.specs.Refusals.{Refusal, refusal, fault, faulty, firstBad, hopsBad, vertexBad, unusedOf, fillerBad, twiceBad, lastBad, pathBad}
 use Rattle.rules.specs.Shape.{Permitted, Shaped}
 use Rattle.rules.specs.TableLaws.{Kept, no-fault, Orderly, Block, block, path-owner, record-length, refused-long, refused-ragged, refused-record}
-use Rattle.rules.specs.PathLaws.{vertices-apart}
-
-none-some : {A : Type 0} {o : Option A} {a : A} → o ≡ none → o ≡ some a → ⊥
-none-some {o} {a} p q = let z : _≡_ {A = ℕ} 0 1 = cc in omega arith
 
 -- the lengths are right and every record keeps the rules
 pub record Accepted (t : List ℕ) : Type 0 where
@@ -34,16 +31,16 @@ pub record Accepted (t : List ℕ) : Type 0 where
 module _ (t : List ℕ) (e : refusal t ≡ none) where
   accepted-short : length t ≤ 16128
   accepted-short =
-      by-test (ltb 16128 (length t)) (λ q. absurd (none-some e (refused-long t (ltb-true 16128 (length t) q)))) (λ q. ltb-false 16128 (length t) q)
+      by-test (ltb 16128 (length t)) (λ q. absurd (none≢some e (refused-long t (ltb-true 16128 (length t) q)))) (λ q. ltb-false 16128 (length t) q)
 
   accepted-whole : length t % 16 ≡ 0
   accepted-whole =
       by-test (eqb (length t % 16) 0) (λ q. eqb-true (length t % 16) 0 q)
-      (λ q. absurd (none-some e (refused-ragged t accepted-short (eqb-false (length t % 16) 0 q))))
+      (λ q. absurd (none≢some e (refused-ragged t accepted-short (eqb-false (length t % 16) 0 q))))
 
   none-faulty : (o : Option ℕ) → firstBad t ≡ o → firstBad t ≡ none
   none-faulty none q = q
-  none-faulty (some i) q = absurd (none-some e (refused-record t accepted-short accepted-whole i q))
+  none-faulty (some i) q = absurd (none≢some e (refused-record t accepted-short accepted-whole i q))
 
   faultless : (i : ℕ) → i < records t → fault t i ≡ 0
   unfolding firstBad faulty
@@ -199,7 +196,7 @@ module _ (t : List ℕ) (e : refusal t ≡ none) (i : ℕ) (h : i < records t) w
 
   apart : (a b : ℕ) → a < b → b < length (pathAt t i) → getD (pathAt t i) a 0 ≡ getD (pathAt t i) b 0 → ⊥
   unfolding twiceBad
-  apart = vertices-apart (pathAt t i) (keeps .once)
+  apart = twice-apart (pathAt t i) (keeps .once)
 
   ends-in-0 : getD (recordAt t i) (2 + hopsAt t i) 0 ≡ 0
   unfolding lastBad
@@ -207,7 +204,7 @@ module _ (t : List ℕ) (e : refusal t ≡ none) (i : ℕ) (h : i < records t) w
 
   filler : (outside 0 0 (getD (recordAt t i) 15 0) ≡ false) × (anyIn (outside 255 255) (unusedOf (recordAt t i)) ≡ false)
   unfolding fillerBad
-  filler = let x = or-false (anyIn (outside 255 255) (unusedOf (recordAt t i))) (outside 0 0 (getD (recordAt t i) 15 0)) (keeps .filler) in (x .1, x .0)
+  filler = let x = or-none (anyIn (outside 255 255) (unusedOf (recordAt t i))) (outside 0 0 (getD (recordAt t i) 15 0)) (keeps .filler) in (x .1, x .0)
 
   unused-byte : (k : ℕ) → 3 + hopsAt t i ≤ k → k ≤ 14 → getD (recordAt t i) k 0 ≡ 255
   unfolding unusedOf
@@ -274,7 +271,7 @@ module _ (t : List ℕ) (e : refusal t ≡ none) where
       (λ z. let s = some-below (λ i. elem v (pathAt t i)) (records t) z in
       let p = elem-place v (pathAt t (s .0)) (s .2) in
       let m = vertex-small t e (s .0) (s .1) (p .0) (p .1) in omega (arith, p .2))
-      (or-true (eqb v 0) (anyBelow (λ i. elem v (pathAt t i)) (records t)) q)
+      (or-cases (eqb v 0) (anyBelow (λ i. elem v (pathAt t i)) (records t)) q)
 
   always-0 : present t 0 ≡ true
   unfolding present

@@ -50,7 +50,8 @@ unfoldable pub lineOf : List ℕ → ℕ → List ℕ
 lineOf rows v = v ∷ take 2 (drop (16 * v) rows) ++ vertices (take 13 (drop 3 (drop (16 * v) rows)))
 
 unfoldable pub checkedOf : List ℕ → Report → Outcome
-checkedOf t r = checked (map (lineOf (r .rows)) (thoseBelow (λ v. present t v && not (eqb v 0)) 64)) (r .stages) (r .hops) (vertices (r .ring))
+checkedOf t r =
+    checked (map (lineOf (r .rows)) (thoseBelow (λ v. present t v && not (eqb v 0)) 64)) (r .stages) (r .hops) (vertices (r .ring))
 
 unfoldable pub movements : (ℕ → List Path) → List ℕ → List Pair → List ℤ
 movements paths heard [] = []
@@ -65,7 +66,10 @@ outcome (runs bs s) =
     let t = tableBytes bs in
     let zeros : List ℕ = replicate 4096 0 in
     let sums : List ℤ = replicate 64 (pos 7) in
-    elim (runRefusal t zeros s sums) [ none ↦ ranOf (movements (pathsOf t) zeros (pairsIn s)) (run (pathsOf t) zeros (pairsIn s)) | some r ↦ refused (r .number) (r .place) ]
+    elim (runRefusal t zeros s sums) [
+      | none ↦ ranOf (movements (pathsOf t) zeros (pairsIn s)) (run (pathsOf t) zeros (pairsIn s))
+      | some r ↦ refused (r .number) (r .place)
+    ]
 
 pub record Example : Type 0 where
   pub input : Input
@@ -80,51 +84,104 @@ table7 = ((1 ∷ 0 ∷ []) ∷ []) ∷ ((2 ∷ 1 ∷ 0 ∷ []) ∷ (2 ∷ 0 ∷ 
 
 -- 1. Empty.
 unfoldable pub empty : Example
-empty = record { input = check []; expected = checked [] 0 0 [] }
+empty =
+    record {
+      input = check [];
+      expected = checked [] 0 0 [];
+    }
 
 -- 2. One direct path.
 unfoldable pub direct : Example
-direct = record { input = check (((1 ∷ 0 ∷ []) ∷ []) ∷ []); expected = checked ((1 ∷ 1 ∷ 1 ∷ 1 ∷ 0 ∷ []) ∷ []) 1 1 [] }
+direct =
+    record {
+      input = check (((1 ∷ 0 ∷ []) ∷ []) ∷ []);
+      expected = checked ((1 ∷ 1 ∷ 1 ∷ 1 ∷ 0 ∷ []) ∷ []) 1 1 [];
+    }
 
 -- 3. Two routers that each prefer the other.
 unfoldable pub disagree : Example
-disagree = record { input = check table3; expected = checked ((1 ∷ 255 ∷ 1 ∷ 1 ∷ 2 ∷ 0 ∷ []) ∷ (2 ∷ 255 ∷ 1 ∷ 2 ∷ 1 ∷ 0 ∷ []) ∷ []) 0 2 (1 ∷ 2 ∷ []) }
+disagree =
+    record {
+      input = check table3;
+      expected = checked ((1 ∷ 255 ∷ 1 ∷ 1 ∷ 2 ∷ 0 ∷ []) ∷ (2 ∷ 255 ∷ 1 ∷ 2 ∷ 1 ∷ 0 ∷ []) ∷ []) 0 2 (1 ∷ 2 ∷ []);
+    }
 
 -- 4. A ring of three.
 unfoldable pub threeRing : Example
-threeRing = record { input = check (((1 ∷ 2 ∷ 0 ∷ []) ∷ (1 ∷ 0 ∷ []) ∷ []) ∷ ((2 ∷ 3 ∷ 0 ∷ []) ∷ (2 ∷ 0 ∷ []) ∷ []) ∷ ((3 ∷ 1 ∷ 0 ∷ []) ∷ (3 ∷ 0 ∷ []) ∷ []) ∷ []); expected = checked ((1 ∷ 255 ∷ 1 ∷ 1 ∷ 2 ∷ 0 ∷ []) ∷ (2 ∷ 255 ∷ 1 ∷ 2 ∷ 3 ∷ 0 ∷ []) ∷ (3 ∷ 255 ∷ 1 ∷ 3 ∷ 1 ∷ 0 ∷ []) ∷ []) 0 2 (1 ∷ 2 ∷ 3 ∷ []) }
+threeRing =
+    record {
+      input = check (((1 ∷ 2 ∷ 0 ∷ []) ∷ (1 ∷ 0 ∷ []) ∷ []) ∷ ((2 ∷ 3 ∷ 0 ∷ []) ∷ (2 ∷ 0 ∷ []) ∷ []) ∷ ((3 ∷ 1 ∷ 0 ∷ []) ∷ (3 ∷ 0 ∷ []) ∷ []) ∷ []);
+      expected = checked ((1 ∷ 255 ∷ 1 ∷ 1 ∷ 2 ∷ 0 ∷ []) ∷ (2 ∷ 255 ∷ 1 ∷ 2 ∷ 3 ∷ 0 ∷ []) ∷ (3 ∷ 255 ∷ 1 ∷ 3 ∷ 1 ∷ 0 ∷ []) ∷ []) 0 2 (1 ∷ 2 ∷ 3 ∷ []);
+    }
 
 -- 5. Stage 1, then a ring of two.
 unfoldable pub shortcut : Example
-shortcut = record { input = check (((1 ∷ 0 ∷ []) ∷ []) ∷ ((2 ∷ 3 ∷ 0 ∷ []) ∷ (2 ∷ 1 ∷ 0 ∷ []) ∷ (2 ∷ 0 ∷ []) ∷ []) ∷ ((3 ∷ 2 ∷ 0 ∷ []) ∷ (3 ∷ 0 ∷ []) ∷ []) ∷ []); expected = checked ((1 ∷ 1 ∷ 1 ∷ 1 ∷ 0 ∷ []) ∷ (2 ∷ 255 ∷ 1 ∷ 2 ∷ 3 ∷ 0 ∷ []) ∷ (3 ∷ 255 ∷ 1 ∷ 3 ∷ 2 ∷ 0 ∷ []) ∷ []) 1 2 (2 ∷ 3 ∷ []) }
+shortcut =
+    record {
+      input = check (((1 ∷ 0 ∷ []) ∷ []) ∷ ((2 ∷ 3 ∷ 0 ∷ []) ∷ (2 ∷ 1 ∷ 0 ∷ []) ∷ (2 ∷ 0 ∷ []) ∷ []) ∷ ((3 ∷ 2 ∷ 0 ∷ []) ∷ (3 ∷ 0 ∷ []) ∷ []) ∷ []);
+      expected = checked ((1 ∷ 1 ∷ 1 ∷ 1 ∷ 0 ∷ []) ∷ (2 ∷ 255 ∷ 1 ∷ 2 ∷ 3 ∷ 0 ∷ []) ∷ (3 ∷ 255 ∷ 1 ∷ 3 ∷ 2 ∷ 0 ∷ []) ∷ []) 1 2 (2 ∷ 3 ∷ []);
+    }
 
 -- 6. A vertex that only others name.
 unfoldable pub silent : Example
-silent = record { input = check (((1 ∷ 2 ∷ 0 ∷ []) ∷ []) ∷ []); expected = checked ((1 ∷ 2 ∷ 0 ∷ []) ∷ (2 ∷ 1 ∷ 0 ∷ []) ∷ []) 2 2 [] }
+silent =
+    record {
+      input = check (((1 ∷ 2 ∷ 0 ∷ []) ∷ []) ∷ []);
+      expected = checked ((1 ∷ 2 ∷ 0 ∷ []) ∷ (2 ∷ 1 ∷ 0 ∷ []) ∷ []) 2 2 [];
+    }
 
 -- 7. Three stages.
 unfoldable pub chain : Example
-chain = record { input = check table7; expected = checked ((1 ∷ 1 ∷ 1 ∷ 1 ∷ 0 ∷ []) ∷ (2 ∷ 2 ∷ 1 ∷ 2 ∷ 1 ∷ 0 ∷ []) ∷ (3 ∷ 3 ∷ 0 ∷ []) ∷ []) 3 2 [] }
+chain =
+    record {
+      input = check table7;
+      expected = checked ((1 ∷ 1 ∷ 1 ∷ 1 ∷ 0 ∷ []) ∷ (2 ∷ 2 ∷ 1 ∷ 2 ∷ 1 ∷ 0 ∷ []) ∷ (3 ∷ 3 ∷ 0 ∷ []) ∷ []) 3 2 [];
+    }
 
 -- 8. Table 3 from zeros.
 unfoldable pub firstMoves : Example
-firstMoves = record { input = runs table3 (1 ∷ 0 ∷ 2 ∷ 1 ∷ []); expected = ran (pos 15 ∷ pos 16 ∷ []) 2 0 2 0 (pos 15 ∷ pos 16 ∷ pos 0 ∷ []) }
+firstMoves =
+    record {
+      input = runs table3 (1 ∷ 0 ∷ 2 ∷ 1 ∷ []);
+      expected = ran (pos 15 ∷ pos 16 ∷ []) 2 0 2 0 (pos 15 ∷ pos 16 ∷ pos 0 ∷ []);
+    }
 
 -- 9. Table 7 from zeros, with a withdrawal at the end.
 unfoldable pub withdrawn : Example
-withdrawn = record { input = runs table7 (2 ∷ 0 ∷ 3 ∷ 2 ∷ 1 ∷ 0 ∷ 2 ∷ 1 ∷ 3 ∷ 2 ∷ []); expected = ran (pos 15 ∷ pos 16 ∷ pos 16 ∷ pos 1 ∷ negsuc 15 ∷ []) 4 1 5 1 (pos 16 ∷ pos 16 ∷ pos 0 ∷ []) }
+withdrawn =
+    record {
+      input = runs table7 (2 ∷ 0 ∷ 3 ∷ 2 ∷ 1 ∷ 0 ∷ 2 ∷ 1 ∷ 3 ∷ 2 ∷ []);
+      expected = ran (pos 15 ∷ pos 16 ∷ pos 16 ∷ pos 1 ∷ negsuc 15 ∷ []) 4 1 5 1 (pos 16 ∷ pos 16 ∷ pos 0 ∷ []);
+    }
 
 -- A router in two blocks, apart: owners 1, 2, 1.
 unfoldable pub blocksApart : Example
-blocksApart = record { input = check (((1 ∷ 0 ∷ []) ∷ []) ∷ ((2 ∷ 0 ∷ []) ∷ []) ∷ ((1 ∷ 2 ∷ 0 ∷ []) ∷ []) ∷ []); expected = refused 9 2 }
+blocksApart =
+    record {
+      input = check (((1 ∷ 0 ∷ []) ∷ []) ∷ ((2 ∷ 0 ∷ []) ∷ []) ∷ ((1 ∷ 2 ∷ 0 ∷ []) ∷ []) ∷ []);
+      expected = refused 9 2;
+    }
 
 -- A router in two blocks, side by side.
 unfoldable pub blocksAdjacent : Example
-blocksAdjacent = record { input = check (((1 ∷ 0 ∷ []) ∷ []) ∷ ((1 ∷ 2 ∷ 0 ∷ []) ∷ []) ∷ []); expected = refused 10 1 }
+blocksAdjacent =
+    record {
+      input = check (((1 ∷ 0 ∷ []) ∷ []) ∷ ((1 ∷ 2 ∷ 0 ∷ []) ∷ []) ∷ []);
+      expected = refused 10 1;
+    }
 
 unfoldable pub examples : List Example
 examples = empty ∷ direct ∷ disagree ∷ threeRing ∷ shortcut ∷ silent ∷ chain ∷ firstMoves ∷ withdrawn ∷ blocksApart ∷ blocksAdjacent ∷ []
 
 pub worked : map (λ e. outcome (e .input)) examples ≡ map (λ e. e .expected) examples
-unfolding refusedIf refusedAt _orElse_ otherLength scheduleBad firstBadPair runRefusal outside firstFrom anyBelow countBelow thoseBelow anyIn firstIn elem same maxBelow tabulate blocks padded foldLeft recordAt records rankOf hopsOf pathOf ownerOf owned pathsBelow pathsOf present longest nextHop rest first listens hopsBad vertexBad unusedOf fillerBad twice twiceBad lastBad ownerBad rankDue rankBad pathBad inRecord rule recordRules firstBroken fault faulty firstBad tooLong ragged refusal isSettled compatible atStart best judged stage settledList settled enters quiet stageCount stageOf stuckIn follows fromVertex beforeVertex closedPart lowestOf turned ringFrom extends bestGiven placeIn rankIn rowBytes row report offsetOf speaks byteFor pathFor badByte heardFault lastHeard choice step standingOf standing movement pairsIn isUp isDown more listeningOffsets closes begun activated run recordBytes blockBytes tableBytes vertices lineOf checkedOf movements ranOf outcome table3 table7 empty direct disagree threeRing shortcut silent chain firstMoves withdrawn blocksApart blocksAdjacent examples
+unfolding refusedIf refusedAt _orElse_ otherLength scheduleBad firstBadPair runRefusal outside firstFrom anyBelow
+    countBelow thoseBelow anyIn firstIn elem same maxBelow tabulate blocks padded foldLeft recordAt records rankOf
+    hopsOf pathOf ownerOf owned pathsBelow pathsOf present longest nextHop rest first listens hopsBad vertexBad
+    unusedOf fillerBad twice twiceBad lastBad ownerBad rankDue rankBad pathBad inRecord rule recordRules firstBroken
+    fault faulty firstBad tooLong ragged refusal isSettled compatible atStart best judged stage settledList settled
+    enters quiet stageCount stageOf stuckIn follows fromVertex beforeVertex closedPart lowestOf turned ringFrom
+    extends bestGiven placeIn rankIn rowBytes row report offsetOf speaks byteFor pathFor badByte heardFault lastHeard
+    choice step standingOf standing movement pairsIn isUp isDown more listeningOffsets closes begun activated run
+    recordBytes blockBytes tableBytes vertices lineOf checkedOf movements ranOf outcome table3 table7 empty direct
+    disagree threeRing shortcut silent chain firstMoves withdrawn blocksApart blocksAdjacent examples
 worked = refl

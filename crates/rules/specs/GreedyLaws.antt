@@ -1,4 +1,4 @@
--- Laws of the greedy stages.
+-- Laws of the greedy stages: what a stage keeps and adds, how a vertex came to be settled, which stages count, and when each vertex settled.
 use mathlib.Core.Path.{_≡_, refl, sym, ap, _∙_, fun-ext}
 use mathlib.Core.Logic.{_≢_, _⊎_, inl, inr, ⊎-map}
 use mathlib.Core.Bool.{Bool, true, false, not}
@@ -6,41 +6,17 @@ use mathlib.Core.List.{List, [], _∷_}
 use mathlib.Core.Option.{Option, none, some}
 use Prim.Native.Nat.{ℕ, zero, suc, _+_, _<_, _≤_}
 use native.Mathlib.Omega.{arith}
-use lib.ListN.{length, getD, List·getD-eq-default}
-use lib.Dec.{eqb, ltb}
-use borrow.Author.Tests.{eqb-true, eqb-false, ne-eqb, ltb-true, ltb-false}
+use lib.ListN.{List·getD-eq-default}
+use borrow.Author.Tests.{ne-eqb, not-true, not-false}
 use Rattle.lists.specs.Search.{anyBelow, countBelow}
-use Rattle.lists.specs.SearchLaws.{Found, none-below, some-below, count-most}
-use Rattle.lists.specs.Tests.{by-test, true≢, and-true, both, not-true, not-false}
-use Rattle.lists.specs.MoreLaws.{by-option, none≢some, first-passing, count-less}
+use Rattle.lists.specs.SearchLaws.{Found, finds-passing, none-below, some-below, count-most, count-less}
+use Rattle.lists.specs.Tests.{by-test, by-equal, by-less, by-option, true≢, none≢some, and-parts, both}
 use Rattle.lists.specs.Fill.{tabulate}
 use Rattle.lists.specs.FillLaws.{tabulate-length, tabulate-at}
-use Rattle.rules.specs.Table.{Path, first, nextHop}
+use Rattle.rules.specs.Table.{Path, nextHop}
 use Rattle.rules.specs.Greedy.{Settled, isSettled, compatible, atStart, best, judged, stage, settledList, settled, enters, quiet, stageCount, stageOf}
 use Rattle.rules.specs.Shape.{Permitted, Shaped}
-
--- The first path that passes: its place, and that those before it fail.
-pub record First (test : Path → Bool) (ps : List Path) (i : ℕ) : Type 0 where
-  pub under : i < length ps
-  pub here : getD ps i [] ≡ first test ps
-  pub passes : test (first test ps) ≡ true
-  pub earliest : (j : ℕ) → j < i → test (getD ps j []) ≡ false
-
--- none is found, or the first that passes
-pub first-cases : (test : Path → Bool) (ps : List Path) → (first test ps ≡ []) ⊎ ((i : ℕ) × First test ps i)
-unfolding first
-first-cases test [] = inl refl
-first-cases test (p ∷ ps) =
-    by-test (test p) (λ q. inr (0, record { under = omega arith; here = rw (q, first); passes = rw (q, first) q; earliest = λ j l. absurd (omega arith) }))
-    (λ q. go q (first-cases test ps))
-  where
-    earlier : {i : ℕ} → test p ≡ false → First test ps i → (j : ℕ) → j < suc i → test (getD (p ∷ ps) j []) ≡ false
-    earlier q f zero l = q
-    earlier q f (suc j) l = f .earliest j (omega arith)
-
-    go : test p ≡ false → (first test ps ≡ []) ⊎ ((i : ℕ) × First test ps i) → (first test (p ∷ ps) ≡ []) ⊎ ((i : ℕ) × First test (p ∷ ps) i)
-    go q (inl e) = inl (rw (q, first) e)
-    go q (inr r) = inr (suc (r .0), record { under = omega (arith, r .1 .under); here = rw (q, first) (r .1 .here); passes = rw (q, first) (r .1 .passes); earliest = earlier q (r .1) })
+use Rattle.rules.specs.PathLaws.{Stands, first-among}
 
 -- what the test of being settled says
 
@@ -70,12 +46,13 @@ module _ (paths : ℕ → List Path) (present : ℕ → Bool) where
   unfolding settled settledList
   settled-out zero v h = List·getD-eq-default (tabulate atStart 64) none (rw (tabulate-length atStart 64) h)
   settled-out (suc k) v h =
-      List·getD-eq-default (tabulate (stage paths present (settled paths present k)) 64) none (rw (tabulate-length (stage paths present (settled paths present k)) 64) h)
+      let next = stage paths present (settled paths present k) in
+      List·getD-eq-default (tabulate next 64) none (rw (tabulate-length next 64) h)
 
   -- so whatever is settled is below 64
   pub settled-range : (k v : ℕ) (p : Path) → settled paths present k v ≡ some p → v < 64
   settled-range k v p e =
-      by-test (ltb v 64) (λ q. ltb-true v 64 q) (λ q. absurd (none≢some (settled-out k v (ltb-false v 64 q)) e))
+      by-less v 64 (λ h. h) (λ h. absurd (none≢some (settled-out k v h) e))
 
   -- a stage leaves what is settled
   pub stage-keeps : (S : Settled) (v : ℕ) (p : Path) → S v ≡ some p → stage paths present S v ≡ some p
@@ -97,10 +74,15 @@ module _ (paths : ℕ → List Path) (present : ℕ → Bool) where
 
   pub settled-later : (k n v : ℕ) (p : Path) → settled paths present k v ≡ some p → settled paths present (k + n) v ≡ some p
   settled-later k zero v p e = let z : k + 0 ≡ k = omega arith in rw z e
-  settled-later k (suc n) v p e = let z : k + suc n ≡ suc (k + n) = omega arith in rw z (settled-stays (k + n) v p (settled-later k n v p e))
+  settled-later k (suc n) v p e =
+      let z : k + suc n ≡ suc (k + n) = omega arith in
+      rw z (settled-stays (k + n) v p (settled-later k n v p e))
 
   -- so a later stage agrees with an earlier one
-  pub settled-once : (j k v : ℕ) (p q : Path) → settled paths present j v ≡ some p → settled paths present k v ≡ some q → p ≡ q
+  pub settled-once : (j k v : ℕ) (p q : Path)
+      → settled paths present j v ≡ some p
+      → settled paths present k v ≡ some q
+      → p ≡ q
   settled-once j k v p q d e =
       let y = settled-later j k v p d in
       let z = settled-later k j v q e in
@@ -110,20 +92,25 @@ module _ (paths : ℕ → List Path) (present : ℕ → Bool) where
   -- vertex 0 is settled with (0) from the start on
   pub settled-origin : (k : ℕ) → settled paths present k 0 ≡ some (0 ∷ [])
   unfolding atStart
-  settled-origin k = let z : 0 + k ≡ k = omega arith in rw z at (settled-later 0 k 0 (0 ∷ []) (settled-zero 0 (omega arith)))
+  settled-origin k =
+      let z : 0 + k ≡ k = omega arith in
+      rw z at (settled-later 0 k 0 (0 ∷ []) (settled-zero 0 (omega arith)))
 
   -- whoever is judged to settle does so with the path judged
   pub judged-path : (S : Settled) (q p : Path) → judged paths S q ≡ some p → p ≡ q
   unfolding judged
   judged-path S [] p e = cc
   judged-path S (v ∷ q) p e =
-      by-test (isSettled (S (nextHop (v ∷ q)))) (λ r. let d : some (v ∷ q) ≡ some p = rw (r, judged) at e in cc) (λ r. absurd (none≢some {o = none} refl (rw (r, judged) at e)))
+      by-test (isSettled (S (nextHop (v ∷ q))))
+      (λ r. let d : some (v ∷ q) ≡ some p = rw (r, judged) at e in cc)
+      (λ r. absurd (none≢some {o = none} refl (rw (r, judged) at e)))
 
   -- which is none or has a settled next hop
   pub judged-next : (S : Settled) (q p : Path) → judged paths S q ≡ some p → (q ≡ []) ⊎ (isSettled (S (nextHop q)) ≡ true)
   unfolding judged
   judged-next S [] p e = inl refl
-  judged-next S (v ∷ q) p e = inr (by-test (isSettled (S (nextHop (v ∷ q)))) (λ r. r) (λ r. absurd (none≢some {o = none} refl (rw (r, judged) at e))))
+  judged-next S (v ∷ q) p e =
+      inr (by-test (isSettled (S (nextHop (v ∷ q)))) (λ r. r) (λ r. absurd (none≢some {o = none} refl (rw (r, judged) at e))))
 
   -- How a vertex other than 0 came to be settled with p within k stages: once, before that, it was unsettled and judged so.
   pub record Entry (k v : ℕ) (p : Path) : Type 0 where
@@ -136,7 +123,9 @@ module _ (paths : ℕ → List Path) (present : ℕ → Bool) where
   pub entered : (k v : ℕ) (p : Path) → v ≢ 0 → settled paths present k v ≡ some p → Entry k v p
   unfolding atStart
   entered zero v p n e = absurd (none≢some (settled-zero v (settled-range 0 v p e) ∙ rw (ne-eqb v 0 n, atStart)) e)
-  entered (suc k) v p n e = by-option (settled paths present k v) new-here (λ q h. older (entered k v p n (h ∙ ap some (settled-once k (suc k) v q p h e))))
+  entered (suc k) v p n e =
+      by-option (settled paths present k v) new-here
+      (λ q h. older (entered k v p n (h ∙ ap some (settled-once k (suc k) v q p h e))))
     where
       older : Entry k v p → Entry (suc k) v p
       older r = record { at = r .at; before = omega (arith, r .before); new = r .new; here = r .here; judgement = r .judgement }
@@ -146,7 +135,14 @@ module _ (paths : ℕ → List Path) (present : ℕ → Bool) where
 
       new-here : settled paths present k v ≡ none → Entry (suc k) v p
       new-here h =
-          by-test (present v) (λ q. record { at = k; before = omega arith; new = h; here = q; judgement = sym (stage-judges (settled paths present k) v h q) ∙ stepped })
+          by-test (present v)
+          (λ q. record {
+            at = k;
+            before = omega arith;
+            new = h;
+            here = q;
+            judgement = sym (stage-judges (settled paths present k) v h q) ∙ stepped;
+          })
           (λ q. absurd (none≢some (stage-absent (settled paths present k) v h q) stepped))
 
   -- it settles with what was then its best compatible path
@@ -155,18 +151,23 @@ module _ (paths : ℕ → List Path) (present : ℕ → Bool) where
 
   -- only present vertices settle
   pub settled-present : present 0 ≡ true → (k v : ℕ) (p : Path) → settled paths present k v ≡ some p → present v ≡ true
-  settled-present o k v p e = by-test (eqb v 0) (λ q. rw (eqb-true v 0 q) o) (λ q. entered k v p (eqb-false v 0 q) e .here)
+  settled-present o k v p e = by-equal v 0 (λ q. rw q o) (λ q. entered k v p q e .here)
 
   -- a vertex other than 0 settles with no path or with one of its own
-  pub settled-own : (k v : ℕ) (p : Path) → v ≢ 0 → settled paths present k v ≡ some p → (p ≡ []) ⊎ ((i : ℕ) × (i < length (paths v)) × (getD (paths v) i [] ≡ p))
+  pub settled-own : (k v : ℕ) (p : Path) → v ≢ 0 → settled paths present k v ≡ some p → (p ≡ []) ⊎ Stands (paths v) p
   unfolding best
   settled-own k v p n e =
       let r = entered k v p n e in
-      ⊎-map (λ q. entered-best r ∙ q) (λ f. (f .0, f .1 .under, f .1 .here ∙ sym (entered-best r))) (first-cases (compatible (settled paths present (r .at))) (paths v))
+      rw (entered-best r) (first-among (compatible (settled paths present (r .at))) (paths v))
 
   -- in a table's shape that path is permitted
-  pub settled-permitted : Shaped paths present → (k v : ℕ) (p : Path) → v ≢ 0 → settled paths present k v ≡ some p → (p ≡ []) ⊎ Permitted present v p
-  settled-permitted shaped k v p n e = ⊎-map (λ q. q) (λ (i, h, q). rw (← q) (shaped .permitted v i h)) (settled-own k v p n e)
+  pub settled-permitted : Shaped paths present
+      → (k v : ℕ) (p : Path)
+      → v ≢ 0
+      → settled paths present k v ≡ some p
+      → (p ≡ []) ⊎ Permitted present v p
+  settled-permitted shaped k v p n e =
+      ⊎-map (λ q. q) (λ s. rw (← s .there) (shaped .permitted v (s .place) (s .under))) (settled-own k v p n e)
 
   -- the counted stages
 
@@ -175,35 +176,44 @@ module _ (paths : ℕ → List Path) (present : ℕ → Bool) where
   unfolding quiet
   quiet-none k v q h = none-below (enters paths present (settled paths present k)) 64 (not-true _ q) v h
 
-  pub busy-some : (k : ℕ) → quiet paths present k ≡ false → (v : ℕ) × (v < 64) × (enters paths present (settled paths present k) v ≡ true)
+  pub busy-some : (k : ℕ)
+      → quiet paths present k ≡ false
+      → (v : ℕ) × (v < 64) × (enters paths present (settled paths present k) v ≡ true)
   unfolding quiet
   busy-some k q = some-below (enters paths present (settled paths present k)) 64 (not-false _ q)
 
-  -- how many are settled after k stages
+  -- who is settled after k stages, and how many are
+  abbrev done : ℕ → ℕ → Bool
+  done k v = isSettled (settled paths present k v)
+
   count : ℕ → ℕ
-  count k = countBelow (λ v. isSettled (settled paths present k v)) 64
+  count k = countBelow (done k) 64
 
   -- while somebody enters, the number rises
   count-rises : (k : ℕ) → quiet paths present k ≡ false → count k < count (suc k)
   unfolding count enters isSettled
   count-rises k q =
       let r = busy-some k q in
-      let e = and-true _ _ (r .2) in
-      count-less (λ v. isSettled (settled paths present k v)) (λ v. isSettled (settled paths present (suc k) v)) 64 (r .0) (r .1) (not-true _ (e .0)) (rw (settled-suc k (r .0) (r .1)) (e .1))
+      let e = and-parts _ _ (r .2) in
+      count-less (done k) (done (suc k)) 64 (r .0) (r .1) (not-true _ (e .0)) (rw (settled-suc k (r .0) (r .1)) (e .1))
       (λ v h e. let s = is-some _ e in rw (settled-stays k v (s .0) (s .1)))
 
   count-grows : (k : ℕ) → ((j : ℕ) → j < k → quiet paths present j ≡ false) → k < count k
   unfolding count isSettled
   count-grows zero h =
-      omega (arith, count-less (λ v. false) (λ v. isSettled (settled paths present 0 v)) 64 0 (omega arith) refl (rw (settled-origin 0)) (λ k l e. absurd (true≢ {b = false} e refl)))
+      let less = count-less (λ v. false) (done 0) 64 0 (omega arith) refl (rw (settled-origin 0))
+      (λ k l e. absurd (true≢ {b = false} e refl)) in
+      omega arith
   count-grows (suc k) h = omega (arith, count-grows k (λ j l. h j (omega arith)), count-rises k (h k (omega arith)))
 
   -- the stage count is that of the first quiet stage
   pub stages-found : Found (quiet paths present) 0 64 (stageCount paths present)
   unfolding stageCount count
   stages-found =
-      by-test (anyBelow (quiet paths present) 64) (λ q. let r = some-below (quiet paths present) 64 q in first-passing (quiet paths present) 64 64 (r .0) (r .1) (r .2))
-      (λ q. absurd (omega (arith, count-grows 64 (none-below (quiet paths present) 64 q), count-most (λ v. isSettled (settled paths present 64 v)) 64)))
+      let calm = quiet paths present in
+      by-test (anyBelow calm 64)
+      (λ q. let r = some-below calm 64 q in finds-passing calm 64 64 (r .0) (r .1) (r .2))
+      (λ q. absurd (omega (arith, count-grows 64 (none-below calm 64 q), count-most (done 64) 64)))
 
   -- "The stage count s is 0 to 63."
   pub stages-most : stageCount paths present ≤ 63
@@ -218,10 +228,15 @@ module _ (paths : ℕ → List Path) (present : ℕ → Bool) where
   stages-quiet = stages-found .passes
 
   -- a quiet stage changes nothing
-  pub quiet-stage : (k v : ℕ) → quiet paths present k ≡ true → v < 64 → stage paths present (settled paths present k) v ≡ settled paths present k v
+  pub quiet-stage : (k v : ℕ)
+      → quiet paths present k ≡ true
+      → v < 64
+      → stage paths present (settled paths present k) v ≡ settled paths present k v
   unfolding enters isSettled
   quiet-stage k v q h =
-      by-option (settled paths present k v) (λ e. is-none _ (by-test (isSettled (stage paths present (settled paths present k) v)) (λ t. absurd (true≢ (both (not (isSettled (settled paths present k v))) _ (rw e) t) (quiet-none k v q h))) (λ f. f)) ∙ sym e)
+      by-option (settled paths present k v)
+      (λ e. is-none _ (by-test (isSettled (stage paths present (settled paths present k) v))
+      (λ t. absurd (true≢ (both (not (done k v)) _ (rw e) t) (quiet-none k v q h))) (λ f. f)) ∙ sym e)
       (λ p e. stage-keeps (settled paths present k) v p e ∙ sym e)
 
   -- and no later stage does
@@ -230,11 +245,13 @@ module _ (paths : ℕ → List Path) (present : ℕ → Bool) where
   quiet-on k (suc n) v q =
       let z : k + suc n ≡ suc (k + n) = omega arith in
       let e : settled paths present (k + n) ≡ settled paths present k = fun-ext (λ u. quiet-on k n u q) in
-      by-test (ltb v 64) (λ l. let h = ltb-true v 64 l in rw (z, settled-suc (k + n) v h, e) (quiet-stage k v q h))
-      (λ l. let h = ltb-false v 64 l in settled-out (k + suc n) v h ∙ sym (settled-out k v h))
+      by-less v 64
+      (λ h. rw (z, settled-suc (k + n) v h, e) (quiet-stage k v q h))
+      (λ h. settled-out (k + suc n) v h ∙ sym (settled-out k v h))
 
   -- nothing changes after the counted stages
-  pub settled-end : (n v : ℕ) → settled paths present (stageCount paths present + n) v ≡ settled paths present (stageCount paths present) v
+  pub settled-end : (n v : ℕ)
+      → settled paths present (stageCount paths present + n) v ≡ settled paths present (stageCount paths present) v
   settled-end n v = quiet-on (stageCount paths present) n v stages-quiet
 
   -- the stage at which a vertex settled
@@ -243,7 +260,8 @@ module _ (paths : ℕ → List Path) (present : ℕ → Bool) where
     -- it is the first after which the vertex is settled
     pub stage-found : Found (λ k. isSettled (settled paths present k v)) 0 64 (stageOf paths present v)
     unfolding stageOf isSettled
-    stage-found = first-passing (λ k. isSettled (settled paths present k v)) 64 64 (stageCount paths present) (omega (arith, stages-most)) (rw e)
+    stage-found =
+        finds-passing (λ k. isSettled (settled paths present k v)) 64 64 (stageCount paths present) (omega (arith, stages-most)) (rw e)
 
     pub stage-before : (k : ℕ) → k < stageOf paths present v → settled paths present k v ≡ none
     stage-before k h = is-none _ (stage-found .earliest k (omega arith) h)
@@ -251,7 +269,8 @@ module _ (paths : ℕ → List Path) (present : ℕ → Bool) where
     -- it is one of the counted
     pub stage-counted : stageOf paths present v ≤ stageCount paths present
     stage-counted =
-        by-test (ltb (stageCount paths present) (stageOf paths present v)) (λ q. absurd (none≢some (stage-before (stageCount paths present) (ltb-true _ _ q)) e)) (λ q. ltb-false _ _ q)
+        by-less (stageCount paths present) (stageOf paths present v)
+        (λ l. absurd (none≢some (stage-before (stageCount paths present) l) e)) (λ l. l)
 
     -- and the vertex then had the path that it ends with
     pub stage-settles : settled paths present (stageOf paths present v) v ≡ some p

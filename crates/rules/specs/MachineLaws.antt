@@ -10,22 +10,25 @@ use lib.ListN.{length, getD, replicate, length-set, length-replicate, getD-repli
 use lib.Seq.{getD-set-same, getD-set-other}
 use lib.IntN.{natAbs}
 use lib.Dec.{eqb, ltb}
-use borrow.Author.Tests.{eqb-true, eqb-false, ne-eqb, ltb-true, ltb-false, lt-ltb, le-ltb}
+use borrow.Author.Tests.{eqb-true, ne-eqb, ltb-false, lt-ltb, le-ltb, not-false}
 use Rattle.lists.specs.Search.{same}
-use Rattle.lists.specs.SearchLaws.{first-in-none, all-fail-in, some-at}
-use Rattle.lists.specs.Tests.{by-test, or-false, not-false}
-use Rattle.lists.specs.PlaceLaws.{difference-most, told-apart, told-first, told-second}
+use Rattle.lists.specs.Tests.{by-test, by-equal, by-less, or-none}
+use Rattle.lists.specs.NumberLaws.{difference-most, told-apart, told-first, told-second}
+use Rattle.lists.specs.ListLaws.{first-in-none, all-fail-in, some-at, twice-apart}
 use Rattle.rules.specs.Table.{Path, nextHop, rest, listens}
 use Rattle.rules.specs.Stable.{extends, bestGiven}
 use Rattle.rules.specs.Report.{rankIn}
 use Rattle.rules.specs.Machine.{Pair, offsetOf, speaks, byteFor, pathFor, badByte, heardFault, lastHeard, choice, step, standingOf, standing, movement}
 use Rattle.rules.specs.Shape.{Permitted, Shaped}
-use Rattle.rules.specs.PathLaws.{Stands, first-among, first-same, place-tells, place-nil, place-most, place-absent, vertices-apart}
+use Rattle.rules.specs.PathLaws.{Stands, first-among, first-same, place-tells, place-nil, place-most, place-absent}
 
 -- what is given at the next hops decides what is best
-pub best-same : (paths : ℕ → List Path) (f g : ℕ → Path) (v : ℕ) → ((k : ℕ) → k < length (paths v) → f (nextHop (getD (paths v) k [])) ≡ g (nextHop (getD (paths v) k []))) → bestGiven paths f v ≡ bestGiven paths g v
+pub best-same : (paths : ℕ → List Path) (f g : ℕ → Path) (v : ℕ)
+    → ((k : ℕ) → k < length (paths v) → f (nextHop (getD (paths v) k [])) ≡ g (nextHop (getD (paths v) k [])))
+    → bestGiven paths f v ≡ bestGiven paths g v
 unfolding bestGiven extends
-best-same paths f g v e = first-same (extends f) (extends g) (paths v) (λ k h. ap (same (rest (getD (paths v) k []))) (e k h))
+best-same paths f g v e =
+    first-same (extends f) (extends g) (paths v) (λ k h. ap (same (rest (getD (paths v) k []))) (e k h))
 
 module _ (paths : ℕ → List Path) where
   -- the destination speaks of (0)
@@ -57,8 +60,9 @@ module _ (paths : ℕ → List Path) where
   pub choice-spoken : (heard : List ℕ) (u : ℕ) → (choice paths heard u ≡ []) ⊎ Stands (speaks paths u) (choice paths heard u)
   unfolding bestGiven
   choice-spoken heard u =
-      by-test (eqb u 0) (λ q. rw (eqb-true u 0 q, choice-destination heard, speaks-destination) (inr (record { place = 0; under = omega arith; there = refl })))
-      (λ q. rw (choice-other heard u (eqb-false u 0 q), speaks-other u (eqb-false u 0 q), bestGiven) (first-among (extends (lastHeard paths heard u)) (paths u)))
+      by-equal u 0
+      (λ q. rw (q, choice-destination heard, speaks-destination) (inr (record { place = 0; under = omega arith; there = refl })))
+      (λ q. rw (choice-other heard u q, speaks-other u q, bestGiven) (first-among (extends (lastHeard paths heard u)) (paths u)))
 
   -- what v last heard from u stands at 64v+u, where u is a vertex
   pub heard-in : (heard : List ℕ) (v u : ℕ) → u < 64 → lastHeard paths heard v u ≡ pathFor paths u (getD heard (64 * v + u) 0)
@@ -77,7 +81,8 @@ module _ (paths : ℕ → List Path) where
     step-length = length-set heard (offsetOf p) (byteFor paths (p .speaker) (choice paths heard (p .speaker)))
 
     -- a step stores at its pair the byte of the speaker's choice
-    pub step-here : offsetOf p < length heard → getD (step paths heard p) (offsetOf p) 0 ≡ byteFor paths (p .speaker) (choice paths heard (p .speaker))
+    pub step-here : offsetOf p < length heard
+        → getD (step paths heard p) (offsetOf p) 0 ≡ byteFor paths (p .speaker) (choice paths heard (p .speaker))
     unfolding step
     step-here h = getD-set-same heard (offsetOf p) (byteFor paths (p .speaker) (choice paths heard (p .speaker))) 0 h
 
@@ -87,24 +92,36 @@ module _ (paths : ℕ → List Path) where
     step-there k h = getD-set-other heard (offsetOf p) k (byteFor paths (p .speaker) (choice paths heard (p .speaker))) 0 h
 
     -- after a step its listener last heard the speaker's choice from the speaker
-    pub heard-new : length heard ≡ 4096 → p .listener < 64 → p .speaker < 64 → lastHeard paths (step paths heard p) (p .listener) (p .speaker) ≡ choice paths heard (p .speaker)
+    pub heard-new : length heard ≡ 4096
+        → p .listener < 64
+        → p .speaker < 64
+        → lastHeard paths (step paths heard p) (p .listener) (p .speaker) ≡ choice paths heard (p .speaker)
     unfolding offsetOf
     heard-new e l s =
-        heard-in (step paths heard p) (p .listener) (p .speaker) s ∙ rw (step-here (omega arith)) (byte-tells (p .speaker) (choice paths heard (p .speaker)) (choice-spoken heard (p .speaker)))
+        heard-in (step paths heard p) (p .listener) (p .speaker) s
+        ∙ rw (step-here (omega arith)) (byte-tells (p .speaker) (choice paths heard (p .speaker)) (choice-spoken heard (p .speaker)))
 
     -- what any other pair last heard is as before
-    pub heard-kept : p .speaker < 64 → (v u : ℕ) → (v ≡ p .listener → u ≡ p .speaker → ⊥) → lastHeard paths (step paths heard p) v u ≡ lastHeard paths heard v u
+    pub heard-kept : p .speaker < 64
+        → (v u : ℕ)
+        → (v ≡ p .listener → u ≡ p .speaker → ⊥)
+        → lastHeard paths (step paths heard p) v u ≡ lastHeard paths heard v u
     unfolding offsetOf
     heard-kept s v u d =
-        by-test (ltb u 64) (λ q. let h : u < 64 = ltb-true u 64 q in
-        heard-in (step paths heard p) v u h ∙ ap (pathFor paths u) (step-there (64 * v + u) (λ e. let r = told-apart v u (p .listener) (p .speaker) h s e in d (r .0) (r .1))) ∙ sym (heard-in heard v u h))
-        (λ q. heard-out (step paths heard p) v u (ltb-false u 64 q) ∙ sym (heard-out heard v u (ltb-false u 64 q)))
+        by-less u 64
+        (λ h. let told = told-apart v u (p .listener) (p .speaker) h s in
+        heard-in (step paths heard p) v u h
+        ∙ ap (pathFor paths u) (step-there (64 * v + u) (λ e. d (told e .0) (told e .1))) ∙ sym (heard-in heard v u h))
+        (λ h. heard-out (step paths heard p) v u h ∙ sym (heard-out heard v u h))
 
     -- a step changes the choice of its listener alone
     pub choice-kept : p .speaker < 64 → (v : ℕ) → v ≢ p .listener → choice paths (step paths heard p) v ≡ choice paths heard v
     choice-kept s v d =
-        by-test (eqb v 0) (λ q. rw (eqb-true v 0 q, choice-destination (step paths heard p), choice-destination heard))
-        (λ q. rw (choice-other (step paths heard p) v (eqb-false v 0 q), choice-other heard v (eqb-false v 0 q)) (best-same paths (lastHeard paths (step paths heard p) v) (lastHeard paths heard v) v (λ k h. heard-kept s v (nextHop (getD (paths v) k [])) (λ e f. d e))))
+        by-equal v 0
+        (λ q. rw (q, choice-destination (step paths heard p), choice-destination heard))
+        (λ q. rw (choice-other (step paths heard p) v q, choice-other heard v q)
+        (best-same paths (lastHeard paths (step paths heard p) v) (lastHeard paths heard v) v
+        (λ k h. heard-kept s v (nextHop (getD (paths v) k [])) (λ e f. d e))))
 
     -- and its standing alone
     pub standing-kept : p .speaker < 64 → (v : ℕ) → v ≢ p .listener → standing paths (step paths heard p) v ≡ standing paths heard v
@@ -119,51 +136,78 @@ module _ (paths : ℕ → List Path) where
   byte-zero k = refl
 
   -- a byte is not bad where the pair listens and the speaker has that many paths
-  pub byte-good : (k b : ℕ) → listens paths (k / 64) (k % 64) ≡ true → b ≤ length (speaks paths (k % 64)) → badByte paths k b ≡ false
+  pub byte-good : (k b : ℕ)
+      → listens paths (k / 64) (k % 64) ≡ true
+      → b ≤ length (speaks paths (k % 64))
+      → badByte paths k b ≡ false
   unfolding badByte
   byte-good k b l h =
       by-test (eqb b 0) (λ q. rw (q, badByte)) (λ q. rw (q, badByte, l) (le-ltb (length (speaks paths (k % 64))) b h))
 
   -- and nowhere else
-  pub byte-fits : (k b : ℕ) → badByte paths k b ≡ false → b ≢ 0 → (listens paths (k / 64) (k % 64) ≡ true) × (b ≤ length (speaks paths (k % 64)))
+  pub byte-fits : (k b : ℕ)
+      → badByte paths k b ≡ false
+      → b ≢ 0
+      → (listens paths (k / 64) (k % 64) ≡ true) × (b ≤ length (speaks paths (k % 64)))
   unfolding badByte
   byte-fits k b e h =
-      let r = or-false (not (listens paths (k / 64) (k % 64))) (ltb (length (speaks paths (k % 64))) b) (rw (ne-eqb b 0 h, badByte) at e) in
-      (not-false (listens paths (k / 64) (k % 64)) (r .0), ltb-false (length (speaks paths (k % 64))) b (r .1))
+      let heard = listens paths (k / 64) (k % 64) in
+      let most = length (speaks paths (k % 64)) in
+      let r = or-none (not heard) (ltb most b) (rw (ne-eqb b 0 h, badByte) at e) in
+      (not-false heard (r .0), ltb-false most b (r .1))
 
   -- at a listening pair the byte for any path is not bad
-  pub offset-good : (p : Pair) (c : Path) → p .speaker < 64 → listens paths (p .listener) (p .speaker) ≡ true → badByte paths (offsetOf p) (byteFor paths (p .speaker) c) ≡ false
+  pub offset-good : (p : Pair) (c : Path)
+      → p .speaker < 64
+      → listens paths (p .listener) (p .speaker) ≡ true
+      → badByte paths (offsetOf p) (byteFor paths (p .speaker) c) ≡ false
   unfolding offsetOf byteFor
   offset-good p c s l =
-      byte-good (offsetOf p) (byteFor paths (p .speaker) c) (rw (told-first (p .listener) (p .speaker) s, told-second (p .listener) (p .speaker) s) l)
+      byte-good (offsetOf p) (byteFor paths (p .speaker) c)
+      (rw (told-first (p .listener) (p .speaker) s, told-second (p .listener) (p .speaker) s) l)
       (rw (told-second (p .listener) (p .speaker) s) (place-most c (speaks paths (p .speaker))))
 
   -- in a valid state no byte is bad
-  pub valid-bytes : (heard : List ℕ) → heardFault paths heard ≡ none → (k : ℕ) → k < length heard → badByte paths k (getD heard k 0) ≡ false
+  pub valid-bytes : (heard : List ℕ)
+      → heardFault paths heard ≡ none
+      → (k : ℕ)
+      → k < length heard
+      → badByte paths k (getD heard k 0) ≡ false
   unfolding heardFault
   valid-bytes heard e k h = let z : 0 + k ≡ k = omega arith in rw z at (first-in-none (badByte paths) heard 0 0 e k h)
 
   -- a state in which no byte is bad is valid
-  pub bytes-valid : (heard : List ℕ) → ((k : ℕ) → k < length heard → badByte paths k (getD heard k 0) ≡ false) → heardFault paths heard ≡ none
+  pub bytes-valid : (heard : List ℕ)
+      → ((k : ℕ) → k < length heard → badByte paths k (getD heard k 0) ≡ false)
+      → heardFault paths heard ≡ none
   unfolding heardFault
   bytes-valid heard f = all-fail-in (badByte paths) heard 0 0 (λ k h. let z : 0 + k ≡ k = omega arith in rw z (f k h))
 
   -- all zeros is always valid
   pub zeros-valid : (n : ℕ) → heardFault paths (replicate n 0) ≡ none
   zeros-valid n =
-      bytes-valid (replicate n 0) (λ k h. rw (getD-replicate {A = ℕ} n k 0 0 (omega (arith, length-replicate {A = ℕ} n 0))) (byte-zero k))
+      bytes-valid (replicate n 0)
+      (λ k h. rw (getD-replicate {A = ℕ} n k 0 0 (omega (arith, length-replicate {A = ℕ} n 0))) (byte-zero k))
 
   -- a step at a listening pair keeps the state valid
-  pub step-keeps : (heard : List ℕ) (p : Pair) → p .speaker < 64 → listens paths (p .listener) (p .speaker) ≡ true → heardFault paths heard ≡ none → heardFault paths (step paths heard p) ≡ none
+  pub step-keeps : (heard : List ℕ) (p : Pair)
+      → p .speaker < 64
+      → listens paths (p .listener) (p .speaker) ≡ true
+      → heardFault paths heard ≡ none
+      → heardFault paths (step paths heard p) ≡ none
   step-keeps heard p s l e =
-      bytes-valid (step paths heard p) (λ k h. let n : k < length heard = omega (arith, step-length heard p) in
-      by-test (eqb k (offsetOf p)) (λ q. let z : k ≡ offsetOf p = eqb-true k (offsetOf p) q in rw (z, step-here heard p (omega arith)) (offset-good p (choice paths heard (p .speaker)) s l))
-      (λ q. rw (step-there heard p k (eqb-false k (offsetOf p) q)) (valid-bytes heard e k n)))
+      bytes-valid (step paths heard p)
+      (λ k h. let n : k < length heard = omega (arith, step-length heard p) in
+      by-equal k (offsetOf p)
+      (λ z. rw (z, step-here heard p (omega arith)) (offset-good p (choice paths heard (p .speaker)) s l))
+      (λ z. rw (step-there heard p k z) (valid-bytes heard e k n)))
 
   -- standings
 
   -- the rank of a choice tells it, but for the destination
-  pub rank-tells : (heard : List ℕ) (v : ℕ) → v ≢ 0 → getD ([] ∷ paths v) (rankIn paths v (choice paths heard v)) [] ≡ choice paths heard v
+  pub rank-tells : (heard : List ℕ) (v : ℕ)
+      → v ≢ 0
+      → getD ([] ∷ paths v) (rankIn paths v (choice paths heard v)) [] ≡ choice paths heard v
   unfolding rankIn
   rank-tells heard v h = place-tells (choice paths heard v) (paths v) (rw (speaks-other v h) at (choice-spoken heard v))
 
@@ -182,7 +226,8 @@ module _ (paths : ℕ → List Path) where
   pub movement-most : (heard : List ℕ) (p : Pair) → natAbs (movement paths heard p) ≤ 16
   unfolding movement
   movement-most heard p =
-      difference-most (standing paths (step paths heard p) (p .listener)) (standing paths heard (p .listener)) 16 (standing-most (step paths heard p) (p .listener)) (standing-most heard (p .listener))
+      difference-most (standing paths (step paths heard p) (p .listener)) (standing paths heard (p .listener)) 16
+      (standing-most (step paths heard p) (p .listener)) (standing-most heard (p .listener))
 
   -- ranks up to 16 are told by their standings
   standing-of-tells : (r s : ℕ) → r ≤ 16 → s ≤ 16 → standingOf paths r ≡ standingOf paths s → r ≡ s
@@ -207,12 +252,24 @@ module _ (paths : ℕ → List Path) (present : ℕ → Bool) (shaped : Shaped p
       let r = some-at (λ p. eqb (nextHop p) u) (paths v) [] e in
       go (r .0) (r .1) (eqb-true (getD (getD (paths v) (r .0) []) 1 0) u (r .2)) (shaped .permitted v (r .0) (r .1))
     where
-      go : (k : ℕ) → k < length (paths v) → getD (getD (paths v) k []) 1 0 ≡ u → Permitted present v (getD (paths v) k []) → Listening v u
+      go : (k : ℕ)
+          → k < length (paths v)
+          → getD (getD (paths v) k []) 1 0 ≡ u
+          → Permitted present v (getD (paths v) k [])
+          → Listening v u
       go k h n q =
-          record { listenerSmall = omega (arith, q .owner, q .vertices 0 (omega (arith, q .long))); listenerOther = λ z. let y : length (paths v) ≡ 0 = rw z (ap length (shaped .destination)) in omega arith; speakerSmall = omega (arith, q .vertices 1 (q .long)); apart = λ z. vertices-apart (getD (paths v) k []) (q .simple) 0 1 (omega arith) (q .long) (q .owner ∙ z ∙ sym n) }
+          record {
+            listenerSmall = omega (arith, q .owner, q .vertices 0 (omega (arith, q .long)));
+            listenerOther = λ z. let y : length (paths v) ≡ 0 = rw z (ap length (shaped .destination)) in omega arith;
+            speakerSmall = omega (arith, q .vertices 1 (q .long));
+            apart = λ z. twice-apart (getD (paths v) k []) (q .simple) 0 1 (omega arith) (q .long) (q .owner ∙ z ∙ sym n);
+          }
 
   -- an accepted step keeps the state valid
-  pub step-valid : (heard : List ℕ) (p : Pair) → heardFault paths heard ≡ none → listens paths (p .listener) (p .speaker) ≡ true → heardFault paths (step paths heard p) ≡ none
+  pub step-valid : (heard : List ℕ) (p : Pair)
+      → heardFault paths heard ≡ none
+      → listens paths (p .listener) (p .speaker) ≡ true
+      → heardFault paths (step paths heard p) ≡ none
   step-valid heard p e l = step-keeps paths heard p (listening (p .listener) (p .speaker) l .speakerSmall) l e
 
   -- a rank is at most 16
@@ -223,7 +280,9 @@ module _ (paths : ℕ → List Path) (present : ℕ → Bool) (shaped : Shaped p
   -- none has the rank 0, since every permitted path has two vertices
   pub rank-none : (v : ℕ) → rankIn paths v [] ≡ 0
   unfolding rankIn
-  rank-none v = place-absent [] (paths v) (λ k h e. let z : length (getD (paths v) k []) ≡ 0 = ap length e in omega (arith, shaped .permitted v k h .long))
+  rank-none v =
+      place-absent [] (paths v)
+      (λ k h e. let z : length (getD (paths v) k []) ≡ 0 = ap length e in omega (arith, shaped .permitted v k h .long))
 
   -- the destination's standing is 0
   pub standing-destination : (heard : List ℕ) → standing paths heard 0 ≡ 0
@@ -236,15 +295,21 @@ module _ (paths : ℕ → List Path) (present : ℕ → Bool) (shaped : Shaped p
   standing-none heard v e = rw (standing, e, rank-none v)
 
   -- the standing tells the choice, but for the destination
-  pub standing-tells : (one two : List ℕ) (v : ℕ) → v ≢ 0 → standing paths one v ≡ standing paths two v → choice paths one v ≡ choice paths two v
+  pub standing-tells : (one two : List ℕ) (v : ℕ)
+      → v ≢ 0
+      → standing paths one v ≡ standing paths two v
+      → choice paths one v ≡ choice paths two v
   unfolding standing
   standing-tells one two v h e =
-      let z : rankIn paths v (choice paths one v) ≡ rankIn paths v (choice paths two v) = standing-of-tells paths (rankIn paths v (choice paths one v)) (rankIn paths v (choice paths two v)) (rank-most v (choice paths one v)) (rank-most v (choice paths two v)) e in
+      let a = choice paths one v in
+      let b = choice paths two v in
+      let z = standing-of-tells paths (rankIn paths v a) (rankIn paths v b) (rank-most v a) (rank-most v b) e in
       sym (rank-tells paths one v h) ∙ rw z (rank-tells paths two v h)
 
   -- a vertex with the standing 0 has no choice, but for the destination
   pub standing-zero : (heard : List ℕ) (v : ℕ) → v ≢ 0 → standing paths heard v ≡ 0 → choice paths heard v ≡ []
   unfolding standing standingOf
   standing-zero heard v h e =
-      let z : rankIn paths v (choice paths heard v) ≡ 0 = standing-of-tells paths (rankIn paths v (choice paths heard v)) 0 (rank-most v (choice paths heard v)) (omega arith) e in
+      let a = choice paths heard v in
+      let z : rankIn paths v a ≡ 0 = standing-of-tells paths (rankIn paths v a) 0 (rank-most v a) (omega arith) e in
       sym (rank-tells paths heard v h) ∙ rw z

@@ -1,18 +1,19 @@
 -- Laws of one pass through a table: what the slots, the marks and the greatest hops are after one record more.
 use mathlib.Core.Path.{_≡_, refl, sym, ap, _∙_}
 use mathlib.Core.Bool.{Bool, true, false, _||_, or-assoc, or-false}
-use mathlib.Core.List.{List, [], _∷_, _++_, map}
+use mathlib.Core.List.{List, [], _∷_, _++_, map, map-append}
 use Prim.Native.Nat.{ℕ, _+_, _*_, _/_, _%_, _<_, _≤_, min, max}
 use native.Mathlib.Omega.{arith}
 use native.Mathlib.Numerals.{add-one}
 use lib.ListN.{length, getD, set, replicate, length-append, length-replicate, getD-replicate, List·getD-eq-default}
 use lib.Dec.{eqb, ltb}
-use borrow.Author.Tests.{eqb-true, eqb-false, eq-eqb, ne-eqb, ltb-true, ltb-false, lt-ltb, le-ltb}
+use borrow.Author.Tests.{eq-eqb, ne-eqb, lt-ltb, le-ltb}
 use Rattle.lists.specs.Search.{anyBelow, anyIn, elem, maxBelow, thoseBelow}
 use Rattle.lists.specs.Fill.{padded, tabulate, marked}
-use Rattle.lists.specs.SearchLaws.{max-suc, any-append, any-cons, any-nil, eqb-same, any-below-suc, those-in, those-out}
-use Rattle.lists.specs.FillLaws.{is-tabulate, mark-one, map-append, tabulate-ext, tabulate-set, tabulate-at, mark-list, padded-more, padded-full}
-use Rattle.lists.specs.Tests.{by-test}
+use Rattle.lists.specs.SearchLaws.{max-suc, any-below-suc, those-in, those-out}
+use Rattle.lists.specs.ListLaws.{any-append, any-cons, any-nil}
+use Rattle.lists.specs.FillLaws.{is-tabulate, mark-one, tabulate-ext, tabulate-set, tabulate-at, mark-list, padded-more, padded-full}
+use Rattle.lists.specs.Tests.{by-equal, by-less, eqb-same}
 use Rattle.rules.specs.Table.{Path, records, pathAt, hopsAt, ownerAt, owned, pathsBelow, pathsOf, present, slotsOf, nextHop, listens, listensAt}
 
 module _ (t : List ℕ) (i : ℕ) where
@@ -37,10 +38,14 @@ module _ (t : List ℕ) (i v : ℕ) where
   unfolding owned
   owned-out f = rw add-one (those-out (λ j. eqb (ownerAt t j) v) i (ne-eqb (ownerAt t i) v f))
 
-pub names-more : (t : List ℕ) (i : ℕ) (marks : List Bool) (p : List ℕ) → marks ≡ tabulate (namedBelow t i) 64 → p ≡ pathAt t i → marked marks p ≡ tabulate (namedBelow t (i + 1)) 64
+pub names-more : (t : List ℕ) (i : ℕ) (marks : List Bool) (p : List ℕ)
+    → marks ≡ tabulate (namedBelow t i) 64
+    → p ≡ pathAt t i
+    → marked marks p ≡ tabulate (namedBelow t (i + 1)) 64
 names-more t i marks p e f =
     rw (e, f) (mark-list (namedBelow t i) (namedBelow t (i + 1)) 64 (pathAt t i)
-    (λ v l. ap (λ (b : Bool). eqb v 0 || b) (ap (anyBelow (λ j. elem v (pathAt t j))) (add-one i) ∙ any-below-suc (λ j. elem v (pathAt t j)) i) ∙ sym (or-assoc (eqb v 0) _ _)))
+    (λ v l. let names : ℕ → Bool = λ j. elem v (pathAt t j) in
+    ap (λ (b : Bool). eqb v 0 || b) (ap (anyBelow names) (add-one i) ∙ any-below-suc names i) ∙ sym (or-assoc (eqb v 0) _ _)))
 
 pub names-none : (t : List ℕ) → set (replicate 64 false) 0 true ≡ tabulate (namedBelow t 0) 64
 unfolding tabulate anyBelow
@@ -59,7 +64,11 @@ module _ (t : List ℕ) (i : ℕ) (slots : List (List ℕ)) (used : List ℕ) (s
   pub slots-skip : 64 ≤ ownerAt t i → Slotted t (i + 1) slots used
   unfolding slotsOf usedOf
   slots-skip h =
-      record { filled = s .filled ∙ tabulate-ext _ _ 64 (λ v l. ap (padded 16 65535) (sym (owned-out t i v (omega arith)))); counted = s .counted ∙ tabulate-ext _ _ 64 (λ v l. ap (λ (o : List ℕ). min (length o) 16) (sym (owned-out t i v (omega arith)))) }
+      let same : (v : ℕ) → v < 64 → owned t i v ≡ owned t (i + 1) v = λ v l. sym (owned-out t i v (omega arith)) in
+      record {
+        filled = s .filled ∙ tabulate-ext _ _ 64 (λ v l. ap (padded 16 65535) (same v l));
+        counted = s .counted ∙ tabulate-ext _ _ 64 (λ v l. ap (λ (o : List ℕ). min (length o) 16) (same v l));
+      }
 
   module _ (v : ℕ) (mine : v ≡ ownerAt t i) (small : v < 64) where
     used-at : getD used v 0 ≡ min (length (owned t i v)) 16
@@ -77,15 +86,34 @@ module _ (t : List ℕ) (i : ℕ) (slots : List (List ℕ)) (used : List ℕ) (s
     unfolding slotsOf usedOf
     slots-full h =
         let long : 16 ≤ length (owned t i v) = omega (arith, used-at) in
-        record { filled = s .filled ∙ tabulate-ext _ _ 64 (λ w l. by-test (eqb w v) (λ q. let e : w ≡ v = eqb-true w v q in rw (e, mine-more) (sym (padded-full 65535 16 (owned t i v) i long))) (λ q. ap (padded 16 65535) (sym (others w (eqb-false w v q))))); counted = s .counted ∙ tabulate-ext _ _ 64 (λ w l. by-test (eqb w v) (λ q. let e : w ≡ v = eqb-true w v q in rw (e, mine-more) (omega (arith, length-append (owned t i v) (i ∷ [])))) (λ q. ap (λ (o : List ℕ). min (length o) 16) (sym (others w (eqb-false w v q))))) }
+        record {
+          filled = s .filled ∙ tabulate-ext _ _ 64 (λ w l. by-equal w v
+              (λ e. rw (e, mine-more) (sym (padded-full 65535 16 (owned t i v) i long)))
+              (λ e. ap (padded 16 65535) (sym (others w e))));
+          counted = s .counted ∙ tabulate-ext _ _ 64 (λ w l. by-equal w v
+              (λ e. rw (e, mine-more) (omega (arith, length-append (owned t i v) (i ∷ []))))
+              (λ e. ap (λ (o : List ℕ). min (length o) 16) (sym (others w e))));
+        }
 
     -- any other takes the next slot
-    pub slots-store : (k : ℕ) → k ≡ getD used v 0 → k < 16 → Slotted t (i + 1) (set slots v (set (getD slots v []) k i)) (set used v (k + 1))
+    pub slots-store : (k : ℕ)
+        → k ≡ getD used v 0
+        → k < 16
+        → Slotted t (i + 1) (set slots v (set (getD slots v []) k i)) (set used v (k + 1))
     unfolding slotsOf usedOf
     slots-store k e h =
         let here : k ≡ length (owned t i v) = omega (arith, used-at) in
-        let row : getD slots v [] ≡ padded 16 65535 (owned t i v) = rw (s .filled) (tabulate-at (λ w. padded 16 65535 (owned t i w)) 64 v [] small) in
-        record { filled = rw (row, s .filled) (tabulate-set (λ w. padded 16 65535 (owned t i w)) (λ w. padded 16 65535 (owned t (i + 1) w)) 64 v (set (padded 16 65535 (owned t i v)) k i) small (ap (padded 16 65535) mine-more ∙ sym (padded-more 65535 16 (owned t i v) i k here h)) (λ w f. ap (padded 16 65535) (sym (others w f)))); counted = rw (s .counted) (tabulate-set (λ w. min (length (owned t i w)) 16) (λ w. min (length (owned t (i + 1) w)) 16) 64 v (k + 1) small (rw mine-more (omega (arith, length-append (owned t i v) (i ∷ [])))) (λ w f. ap (λ (o : List ℕ). min (length o) 16) (sym (others w f)))) }
+        let slotsAt : ℕ → ℕ → List ℕ = λ n w. padded 16 65535 (owned t n w) in
+        let usedBy : ℕ → ℕ → ℕ = λ n w. min (length (owned t n w)) 16 in
+        let row : getD slots v [] ≡ padded 16 65535 (owned t i v) = rw (s .filled) (tabulate-at (slotsAt i) 64 v [] small) in
+        record {
+          filled = rw (row, s .filled) (tabulate-set (slotsAt i) (slotsAt (i + 1)) 64 v (set (padded 16 65535 (owned t i v)) k i)
+              (λ l. ap (padded 16 65535) mine-more ∙ sym (padded-more 65535 16 (owned t i v) i k here))
+              (λ w l f. ap (padded 16 65535) (sym (others w f))));
+          counted = rw (s .counted) (tabulate-set (usedBy i) (usedBy (i + 1)) 64 v (k + 1)
+              (λ l. rw mine-more (omega (arith, length-append (owned t i v) (i ∷ []))))
+              (λ w l f. ap (λ (o : List ℕ). min (length o) 16) (sym (others w f))));
+        }
 
 pub slots-none : (t : List ℕ) → Slotted t 0 (replicate 64 (replicate 16 65535)) (replicate 64 0)
 unfolding slotsOf usedOf owned thoseBelow tabulate padded
@@ -106,49 +134,74 @@ unfoldable pub pairMarked : List Bool → ℕ → ℕ → List Bool
 pairMarked marks v u = elim (ltb u 64) [ true ↦ set marks (64 * v + u) true | false ↦ marks ]
 
 module _ (t : List ℕ) (i : ℕ) where
-  hears-more : (v u : ℕ) → ownerAt t i ≡ v → listens (pathsBelow t (i + 1)) v u ≡ listens (pathsBelow t i) v u || eqb (nextHop (pathAt t i)) u
+  hears-more : (v u : ℕ)
+      → ownerAt t i ≡ v
+      → listens (pathsBelow t (i + 1)) v u ≡ listens (pathsBelow t i) v u || eqb (nextHop (pathAt t i)) u
   unfolding listens
   hears-more v u e =
-      ap (anyIn _) (paths-in t i v e) ∙ any-append _ (pathsBelow t i v) (pathAt t i ∷ []) ∙ rw (any-cons (λ p. eqb (nextHop p) u) (pathAt t i) [], any-nil (λ p. eqb (nextHop p) u), or-false)
+      let hears : Path → Bool = λ p. eqb (nextHop p) u in
+      ap (anyIn _) (paths-in t i v e) ∙ any-append _ (pathsBelow t i v) (pathAt t i ∷ [])
+      ∙ rw (any-cons hears (pathAt t i) [], any-nil hears, or-false)
 
   hears-same : (v u : ℕ) → (ownerAt t i ≡ v → ⊥) → listens (pathsBelow t (i + 1)) v u ≡ listens (pathsBelow t i) v u
   unfolding listens
   hears-same v u f = ap (anyIn _) (paths-out t i v f)
 
   -- one record more marks its own pair
-  pair-here : (k : ℕ) → nextHop (pathAt t i) < 64 → listensAt (pathsBelow t (i + 1)) k ≡ listensAt (pathsBelow t i) k || eqb k (64 * ownerAt t i + nextHop (pathAt t i))
+  pair-here : (k : ℕ)
+      → nextHop (pathAt t i) < 64
+      → listensAt (pathsBelow t (i + 1)) k ≡ listensAt (pathsBelow t i) k || eqb k (64 * ownerAt t i + nextHop (pathAt t i))
   unfolding listensAt
   pair-here k small =
-      by-test (eqb (ownerAt t i) (k / 64))
-      (λ q. let e = eqb-true (ownerAt t i) (k / 64) q in hears-more (k / 64) (k % 64) e ∙ ap (λ (b : Bool). listensAt (pathsBelow t i) k || b) (eqb-same (nextHop (pathAt t i)) (k % 64) k (64 * ownerAt t i + nextHop (pathAt t i)) (omega arith) (omega arith)))
-      (λ q. let f = eqb-false (ownerAt t i) (k / 64) q in hears-same (k / 64) (k % 64) f ∙ sym (rw (ne-eqb k (64 * ownerAt t i + nextHop (pathAt t i)) (omega arith)) (or-false (listensAt (pathsBelow t i) k))))
+      let u = nextHop (pathAt t i) in
+      let own = 64 * ownerAt t i + u in
+      by-equal (ownerAt t i) (k / 64)
+      (λ e. hears-more (k / 64) (k % 64) e
+      ∙ ap (λ (b : Bool). listensAt (pathsBelow t i) k || b) (eqb-same u (k % 64) k own (omega arith) (omega arith)))
+      (λ e. hears-same (k / 64) (k % 64) e ∙ sym (rw (ne-eqb k own (omega arith)) (or-false (listensAt (pathsBelow t i) k))))
 
   -- and none where the second vertex is none
   pair-none : (k : ℕ) → 64 ≤ nextHop (pathAt t i) → listensAt (pathsBelow t (i + 1)) k ≡ listensAt (pathsBelow t i) k
   unfolding listensAt
   pair-none k large =
-      by-test (eqb (ownerAt t i) (k / 64))
-      (λ q. hears-more (k / 64) (k % 64) (eqb-true (ownerAt t i) (k / 64) q) ∙ rw (ne-eqb (nextHop (pathAt t i)) (k % 64) (omega arith)) (or-false (listensAt (pathsBelow t i) k)))
-      (λ q. hears-same (k / 64) (k % 64) (eqb-false (ownerAt t i) (k / 64) q))
+      by-equal (ownerAt t i) (k / 64)
+      (λ e. hears-more (k / 64) (k % 64) e
+      ∙ rw (ne-eqb (nextHop (pathAt t i)) (k % 64) (omega arith)) (or-false (listensAt (pathsBelow t i) k)))
+      (λ e. hears-same (k / 64) (k % 64) e)
 
-  pub pairs-more : (marks : List Bool) (v u : ℕ) → marks ≡ tabulate (listensAt (pathsBelow t i)) 4096 → v ≡ ownerAt t i → u ≡ nextHop (pathAt t i) → pairMarked marks v u ≡ tabulate (listensAt (pathsBelow t (i + 1))) 4096
+  pub pairs-more : (marks : List Bool) (v u : ℕ)
+      → marks ≡ tabulate (listensAt (pathsBelow t i)) 4096
+      → v ≡ ownerAt t i
+      → u ≡ nextHop (pathAt t i)
+      → pairMarked marks v u ≡ tabulate (listensAt (pathsBelow t (i + 1))) 4096
   unfolding pairMarked
   pairs-more marks v u e f g =
-      by-test (ltb u 64)
-      (λ q. rw (q, pairMarked) (rw (e, f, g) (mark-one (listensAt (pathsBelow t i)) (listensAt (pathsBelow t (i + 1))) 4096 (64 * ownerAt t i + nextHop (pathAt t i)) (λ k l. pair-here k (rw g at (ltb-true u 64 q))))))
-      (λ q. rw (q, pairMarked) (e ∙ tabulate-ext (listensAt (pathsBelow t i)) (listensAt (pathsBelow t (i + 1))) 4096 (λ k l. sym (pair-none k (rw g at (ltb-false u 64 q))))))
+      let heard = listensAt (pathsBelow t i) in
+      let hears = listensAt (pathsBelow t (i + 1)) in
+      by-less u 64
+      (λ h. rw (lt-ltb u 64 h, pairMarked) (rw (e, f, g)
+      (mark-one heard hears 4096 (64 * ownerAt t i + nextHop (pathAt t i)) (λ k l. pair-here k (rw g at h)))))
+      (λ h. rw (le-ltb u 64 h, pairMarked) (e ∙ tabulate-ext heard hears 4096 (λ k l. sym (pair-none k (rw g at h)))))
 
 pub pairs-none : (t : List ℕ) → replicate 4096 false ≡ tabulate (listensAt (pathsBelow t 0)) 4096
 unfolding listensAt listens pathsBelow owned thoseBelow anyIn
-pairs-none t = is-tabulate (listensAt (pathsBelow t 0)) false 4096 (replicate 4096 false) (length-replicate 4096 false) (λ k l. getD-replicate 4096 k false false l)
+pairs-none t =
+    is-tabulate (listensAt (pathsBelow t 0)) false 4096 (replicate 4096 false) (length-replicate 4096 false)
+    (λ k l. getD-replicate 4096 k false false l)
 
 -- what was gathered from all the records
 
-pub names-all : (t : List ℕ) (n : ℕ) (marks : List Bool) → n ≡ records t → marks ≡ tabulate (namedBelow t n) 64 → marks ≡ tabulate (present t) 64
+pub names-all : (t : List ℕ) (n : ℕ) (marks : List Bool)
+    → n ≡ records t
+    → marks ≡ tabulate (namedBelow t n) 64
+    → marks ≡ tabulate (present t) 64
 unfolding present
 names-all t n marks e f = f ∙ tabulate-ext (namedBelow t n) (present t) 64 (λ v l. ap (λ (m : ℕ). namedBelow t m v) e)
 
-pub pairs-all : (t : List ℕ) (n : ℕ) (marks : List Bool) → n ≡ records t → marks ≡ tabulate (listensAt (pathsBelow t n)) 4096 → marks ≡ tabulate (listensAt (pathsOf t)) 4096
+pub pairs-all : (t : List ℕ) (n : ℕ) (marks : List Bool)
+    → n ≡ records t
+    → marks ≡ tabulate (listensAt (pathsBelow t n)) 4096
+    → marks ≡ tabulate (listensAt (pathsOf t)) 4096
 unfolding pathsOf
 pairs-all t n marks e f = f ∙ ap (λ (m : ℕ). tabulate (listensAt (pathsBelow t m)) 4096) e
 

@@ -7,10 +7,10 @@ use Prim.Native.Nat.{ℕ, _+_, _<_, _≤_}
 use native.Mathlib.Omega.{arith}
 use lib.ListN.{length}
 use lib.Dec.{eqb}
-use borrow.Author.Tests.{eqb-true}
+use borrow.Author.Tests.{ne-eqb}
 use Rattle.lists.specs.Search.{countBelow}
-use Rattle.lists.specs.Tests.{by-test, true≢}
-use Rattle.lists.specs.MoreLaws.{by-option, and-first, and-second, count-ext, count-parts}
+use Rattle.lists.specs.Tests.{by-test, by-equal, by-option, true≢, and-first, and-second}
+use Rattle.lists.specs.SearchLaws.{count-ext, count-parts}
 use Rattle.lists.specs.FillLaws.{blocks-length, padded-length}
 use Rattle.rules.specs.Table.{Path, pathsOf, present}
 use Rattle.rules.specs.Greedy.{Settled, isSettled, stageCount, stuckIn}
@@ -28,7 +28,9 @@ row-bytes-length mark rank p = omega (arith, padded-length 255 13 p)
 pub row-length : (paths : ℕ → List Path) (isPresent : ℕ → Bool) (S : Settled) (v : ℕ) → length (row paths isPresent S v) ≡ 16
 unfolding row
 row-length paths isPresent S v =
-    by-test (isPresent v) (λ q. by-option (S v) (λ e. rw (q, e, row) (row-bytes-length _ _ _)) (λ p e. rw (q, e, row) (row-bytes-length _ _ _))) (λ q. rw (q, row) (row-bytes-length _ _ _))
+    by-test (isPresent v)
+    (λ q. by-option (S v) (λ e. rw (q, e, row) (row-bytes-length _ _ _)) (λ p e. rw (q, e, row) (row-bytes-length _ _ _)))
+    (λ q. rw (q, row) (row-bytes-length _ _ _))
 
 -- "rows, 1,024 bytes"
 pub rows-length : (t : List ℕ) → length (report t .rows) ≡ 1024
@@ -44,25 +46,41 @@ ring-length t = padded-length 255 64 _
 
 module _ (paths : ℕ → List Path) (isPresent : ℕ → Bool) (shaped : Shaped paths isPresent) where
   -- the settled and the stuck vertices are the present ones, all without vertex 0
-  pub counts : countBelow (λ v. not (eqb v 0) && isSettled (final paths isPresent v)) 64 + countBelow (isStuck paths isPresent) 64 ≡ countBelow (λ v. not (eqb v 0) && isPresent v) 64
+  pub counts : countBelow (λ v. not (eqb v 0) && isSettled (final paths isPresent v)) 64 + countBelow (isStuck paths isPresent) 64
+      ≡ countBelow (λ v. not (eqb v 0) && isPresent v) 64
   unfolding stuckIn isSettled
   counts =
-      rw (count-ext (λ v. not (eqb v 0) && isSettled (final paths isPresent v)) (λ v. (not (eqb v 0) && isPresent v) && isSettled (final paths isPresent v)) 64 (λ v h. and-second (not (eqb v 0)) (isPresent v) _ (here v)), count-ext (isStuck paths isPresent) (λ v. (not (eqb v 0) && isPresent v) && not (isSettled (final paths isPresent v))) 64 (λ v h. and-first (not (eqb v 0)) (isPresent v) _ (other v)))
-      (count-parts (λ v. not (eqb v 0) && isPresent v) (λ v. isSettled (final paths isPresent v)) 64)
+      let done : ℕ → Bool = λ v. isSettled (final paths isPresent v) in
+      let all : ℕ → Bool = λ v. not (eqb v 0) && isPresent v in
+      rw (count-ext (λ v. not (eqb v 0) && done v) (λ v. all v && done v) 64 (λ v h. and-second (not (eqb v 0)) (isPresent v) _ (here v)))
+      (rw (count-ext (isStuck paths isPresent) (λ v. all v && not (done v)) 64 (λ v h. and-first (not (eqb v 0)) (isPresent v) _ (other v)))
+      (count-parts all done 64))
     where
       here : (v : ℕ) → isSettled (final paths isPresent v) ≡ true → isPresent v ≡ true
-      here v e = let r = is-some _ e in settled-present paths isPresent (shaped .origin) (stageCount paths isPresent) v (r .0) (r .1)
+      here v e =
+          let r = is-some _ e in
+          settled-present paths isPresent (shaped .origin) (stageCount paths isPresent) v (r .0) (r .1)
 
       other : (v : ℕ) → not (isSettled (final paths isPresent v)) ≡ true → not (eqb v 0) ≡ true
-      other v e = by-test (eqb v 0) (λ q. absurd (true≢ e (ap (λ (u : ℕ). not (isSettled (final paths isPresent u))) (eqb-true v 0 q) ∙ ap (λ (o : Option Path). not (isSettled o)) (settled-origin paths isPresent (stageCount paths isPresent))))) (λ q. ap not q)
+      other v e =
+          by-equal v 0
+          (λ q. absurd (true≢ e (ap (λ (u : ℕ). not (isSettled (final paths isPresent u))) q
+          ∙ ap (λ (o : Option Path). not (isSettled o)) (settled-origin paths isPresent (stageCount paths isPresent)))))
+          (λ q. ap not (ne-eqb v 0 q))
 
 -- in the report of an accepted table
-pub report-counts : (t : List ℕ) → Shaped (pathsOf t) (present t) → report t .settledCount + report t .stuckCount ≡ countBelow (λ v. not (eqb v 0) && present t v) 64
+pub report-counts : (t : List ℕ)
+    → Shaped (pathsOf t) (present t)
+    → report t .settledCount + report t .stuckCount ≡ countBelow (λ v. not (eqb v 0) && present t v) 64
 unfolding report
 report-counts t shaped = counts (pathsOf t) (present t) shaped
 
 -- where some vertex is stuck the report has a ring, and where none is it has none: the verdict tells the two apart by the ring's length
-pub report-ring : (t : List ℕ) → Shaped (pathsOf t) (present t) → (v : ℕ) → isStuck (pathsOf t) (present t) v ≡ true → 2 ≤ report t .ringLength
+pub report-ring : (t : List ℕ)
+    → Shaped (pathsOf t) (present t)
+    → (v : ℕ)
+    → isStuck (pathsOf t) (present t) v ≡ true
+    → 2 ≤ report t .ringLength
 unfolding report
 report-ring t shaped v s = ring-holds (pathsOf t) (present t) shaped v s .two
 

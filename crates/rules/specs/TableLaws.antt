@@ -10,10 +10,11 @@ use native.Mathlib.Numerals.{add-one}
 use lib.ListN.{length, getD, take, drop, drop-of-length-le, length-take, length-drop}
 use lib.Seq.{getD-take, getD-drop, take-all, take-nil}
 use lib.Dec.{eqb, ltb}
-use borrow.Author.Tests.{eqb-true, eqb-false, eq-eqb, ne-eqb, ltb-true, ltb-false, lt-ltb, le-ltb}
+use borrow.Author.Tests.{eqb-true, eq-eqb, ne-eqb, ltb-false, lt-ltb, le-ltb, not-false}
 use Rattle.lists.specs.Search.{anyBelow, anyIn, firstFrom, outside, same}
-use Rattle.lists.specs.Tests.{by-test, or-false, or-left, inside, is-inside, above-out, not-false, neither}
-use Rattle.lists.specs.SearchLaws.{first-hit, first-miss, first-end, differ, all-fail, any-below, any-below-suc}
+use Rattle.lists.specs.Tests.{by-test, by-equal, by-less, or-none, or-left, inside, is-inside, above-out, neither}
+use Rattle.lists.specs.SearchLaws.{first-hit, first-miss, first-end, all-fail, any-below, any-below-suc}
+use Rattle.lists.specs.ListLaws.{differ}
 use Rattle.lists.specs.Parts.{part-clipped}
 use Rattle.rules.specs.Table.{Path, records, recordAt, hopsOf, pathOf, ownerOf, rankAt, hopsAt, pathAt, ownerAt}
 use Rattle.rules.specs.Refusals.{Refusal, Rule, unusedOf, rule, inRecord, recordRules, firstBroken, fault, faulty, firstBad, tooLong, ragged, refusal, hopsBad, vertexBad, fillerBad, twiceBad, lastBad, ownerBad, rankDue, rankBad, pathBad}
@@ -29,7 +30,10 @@ module _ (t : List ℕ) (i : ℕ) where
   unfolding firstBroken
   rule-kept r rs e = rw (e, firstBroken)
 
-  rule-passed : (r : Rule) (rs : List Rule) → (r .number ≡ 0 → ⊥) → firstBroken (r ∷ rs) t i ≡ 0 → (r .broken t i ≡ false) × (firstBroken rs t i ≡ 0)
+  rule-passed : (r : Rule) (rs : List Rule)
+      → (r .number ≡ 0 → ⊥)
+      → firstBroken (r ∷ rs) t i ≡ 0
+      → (r .broken t i ≡ false) × (firstBroken rs t i ≡ 0)
   rule-passed r rs f e =
       by-test (r .broken t i) (λ q. absurd (f (sym (rule-broken r rs q) ∙ e))) (λ q. (q, sym (rule-kept r rs q) ∙ e))
 
@@ -41,11 +45,13 @@ module _ (t : List ℕ) (i : ℕ) where
   unfolding fault
   past-none = refl
 
-  pub past-more : (k : ℕ) (r : Rule) (b : Bool) → drop k recordRules ≡ r ∷ drop (suc k) recordRules → Past k → b ≡ r .broken t i → b ≡ false → Past (suc k)
-  past-more k r b e come look q = come ∙ rw e (rule-kept r (drop (suc k) recordRules) (sym look ∙ q))
+  module _ (k : ℕ) (r : Rule) (b : Bool) (e : drop k recordRules ≡ r ∷ drop (suc k) recordRules)
+      (come : Past k) (look : b ≡ r .broken t i) where
+    pub past-more : b ≡ false → Past (suc k)
+    past-more q = come ∙ rw e (rule-kept r (drop (suc k) recordRules) (sym look ∙ q))
 
-  pub past-stop : (k : ℕ) (r : Rule) (b : Bool) → drop k recordRules ≡ r ∷ drop (suc k) recordRules → Past k → b ≡ r .broken t i → b ≡ true → r .number ≡ fault t i
-  past-stop k r b e come look q = sym (come ∙ rw e (rule-broken r (drop (suc k) recordRules) (sym look ∙ q)))
+    pub past-stop : b ≡ true → r .number ≡ fault t i
+    past-stop q = sym (come ∙ rw e (rule-broken r (drop (suc k) recordRules) (sym look ∙ q)))
 
   -- a record that keeps all the rules
   pub record Kept : Type 0 where
@@ -85,7 +91,21 @@ orderly-none t = record { owners = λ j h. absurd (not-suc-le-zero h); ranks = �
 
 pub orderly-more : (t : List ℕ) (n : ℕ) → Orderly t n → ownerBad t n ≡ false → rankBad t n ≡ false → Orderly t (n + 1)
 orderly-more t n o p q =
-    record { owners = λ j h. by-test (eqb j n) (λ e. let k : j ≡ n = eqb-true j n e in rw k p) (λ e. o .owners j (omega (arith, eqb-false j n e))); ranks = λ j h. by-test (eqb j n) (λ e. let k : j ≡ n = eqb-true j n e in rw k q) (λ e. o .ranks j (omega (arith, eqb-false j n e))) }
+    record {
+      owners = λ j h. by-equal j n (λ e. rw e p) (λ e. o .owners j (omega arith));
+      ranks = λ j h. by-equal j n (λ e. rw e q) (λ e. o .ranks j (omega arith));
+    }
+
+-- the rank that is due after a record of the same owner, and after one of another
+
+module _ (t : List ℕ) (j : ℕ) where
+  due-same : ownerAt t (suc j) ≡ ownerAt t j → rankDue t (suc j) ≡ suc (rankAt t j)
+  unfolding rankDue
+  due-same e = rw (eq-eqb (ownerAt t (suc j)) (ownerAt t j) e, rankDue)
+
+  due-new : (ownerAt t (suc j) ≡ ownerAt t j → ⊥) → rankDue t (suc j) ≡ 1
+  unfolding rankDue
+  due-new f = rw (ne-eqb (ownerAt t (suc j)) (ownerAt t j) f, rankDue)
 
 module _ (t : List ℕ) (n : ℕ) (orderly : Orderly t n) where
   owner-step : (j : ℕ) → suc j < n → ownerAt t j ≤ ownerAt t (suc j)
@@ -96,22 +116,20 @@ module _ (t : List ℕ) (n : ℕ) (orderly : Orderly t n) where
   pub owners-rise : (i j : ℕ) → i ≤ j → j < n → ownerAt t i ≤ ownerAt t j
   owners-rise i zero le h = let e : i ≡ 0 = omega arith in rw e (omega arith)
   owners-rise i (suc j) le h =
-      by-test (eqb i (suc j)) (λ q. let e : i ≡ suc j = eqb-true i (suc j) q in rw e (omega arith))
-      (λ q. omega (arith, owner-step j h, owners-rise i j (omega (arith, eqb-false i (suc j) q)) (omega arith)))
+      by-equal i (suc j) (λ e. rw e (omega arith))
+      (λ e. omega (arith, owner-step j h, owners-rise i j (omega arith) (omega arith)))
 
   rank-kept : (j : ℕ) → j < n → (rankAt t j ≤ 16) × (rankAt t j ≡ rankDue t j)
   unfolding rankBad
   rank-kept j h =
-      let r = or-false (ltb 16 (rankAt t j)) (not (eqb (rankAt t j) (rankDue t j))) (orderly .ranks j h) in
+      let r = or-none (ltb 16 (rankAt t j)) (not (eqb (rankAt t j) (rankDue t j))) (orderly .ranks j h) in
       (ltb-false 16 (rankAt t j) (r .0), eqb-true (rankAt t j) (rankDue t j) (not-false _ (r .1)))
 
   rank-same : (j : ℕ) → suc j < n → ownerAt t (suc j) ≡ ownerAt t j → rankAt t (suc j) ≡ suc (rankAt t j)
-  unfolding rankDue
-  rank-same j h e = rank-kept (suc j) h .1 ∙ rw (eq-eqb (ownerAt t (suc j)) (ownerAt t j) e, rankDue)
+  rank-same j h e = rank-kept (suc j) h .1 ∙ due-same t j e
 
   rank-new : (j : ℕ) → suc j < n → (ownerAt t (suc j) ≡ ownerAt t j → ⊥) → rankAt t (suc j) ≡ 1
-  unfolding rankDue
-  rank-new j h f = rank-kept (suc j) h .1 ∙ rw (ne-eqb (ownerAt t (suc j)) (ownerAt t j) f, rankDue)
+  rank-new j h f = rank-kept (suc j) h .1 ∙ due-new t j f
 
   rank-first : 0 < n → rankAt t 0 ≡ 1
   unfolding rankDue
@@ -125,19 +143,38 @@ module _ (t : List ℕ) (n : ℕ) (orderly : Orderly t n) where
     pub inside : (i : ℕ) → suc j ≤ i + rankAt t j → i ≤ j → ownerAt t i ≡ ownerAt t j
     pub before : (i : ℕ) → i + rankAt t j ≤ j → ownerAt t i < ownerAt t j
 
+  new-owner : (j : ℕ) → rankAt t j ≡ 1 → ((i : ℕ) → i < j → ownerAt t i < ownerAt t j) → Block j
+  new-owner j e below =
+      record {
+        least = omega arith;
+        most = omega arith;
+        fits = omega arith;
+        inside = λ i lo hi. (let k : i ≡ j = omega arith in ap (ownerAt t) k);
+        before = λ i l. below i (omega arith);
+      }
+
   pub block : (j : ℕ) → j < n → Block j
-  block zero h =
-      let e = rank-first h in
-      record { least = omega arith; most = omega arith; fits = omega arith; inside = λ i lo hi. (let k : i ≡ 0 = omega arith in ap (ownerAt t) k); before = λ i lo. absurd (omega arith) }
+  block zero h = new-owner 0 (rank-first h) (λ i l. absurd (not-suc-le-zero l))
   block (suc j) h =
-      by-test (eqb (ownerAt t (suc j)) (ownerAt t j))
-      (λ q. let b = block j (omega arith) in let o = eqb-true (ownerAt t (suc j)) (ownerAt t j) q in let e = rank-same j h o in same-owner j h b o e)
-      (λ q. let o = eqb-false (ownerAt t (suc j)) (ownerAt t j) q in let e = rank-new j h o in
-      record { least = omega arith; most = omega arith; fits = omega arith; inside = λ i lo hi. (let k : i ≡ suc j = omega arith in ap (ownerAt t) k); before = λ i lo. omega (arith, o, owner-step j h, owners-rise i j (omega arith) (omega arith)) })
+      by-equal (ownerAt t (suc j)) (ownerAt t j)
+      (λ o. same-owner j h (block j (omega arith)) o (rank-same j h o))
+      (λ o. new-owner (suc j) (rank-new j h o)
+      (λ i l. omega (arith, owner-step j h, owners-rise i j (omega arith) (omega arith))))
     where
-      same-owner : (j : ℕ) → suc j < n → Block j → ownerAt t (suc j) ≡ ownerAt t j → rankAt t (suc j) ≡ suc (rankAt t j) → Block (suc j)
+      same-owner : (j : ℕ)
+          → suc j < n
+          → Block j
+          → ownerAt t (suc j) ≡ ownerAt t j
+          → rankAt t (suc j) ≡ suc (rankAt t j)
+          → Block (suc j)
       same-owner j h b o e =
-          record { least = omega arith; most = rank-kept (suc j) h .0; fits = omega (arith, b .fits); inside = λ i lo hi. by-test (eqb i (suc j)) (λ q. ap (ownerAt t) (eqb-true i (suc j) q)) (λ q. b .inside i (omega arith) (omega (arith, eqb-false i (suc j) q)) ∙ sym o); before = λ i lo. omega (arith, b .before i (omega arith)) }
+          record {
+            least = omega arith;
+            most = rank-kept (suc j) h .0;
+            fits = omega (arith, b .fits);
+            inside = λ i lo hi. by-equal i (suc j) (λ q. ap (ownerAt t) q) (λ q. b .inside i (omega arith) (omega arith) ∙ sym o);
+            before = λ i lo. omega (arith, b .before i (omega arith));
+          }
 
 -- a path begins with its owner
 pub path-owner : (r : List ℕ) → getD (pathOf r) 0 0 ≡ ownerOf r
@@ -148,7 +185,9 @@ path-owner r = getD-take (suc (hopsOf r)) (drop 2 r) 0 0 (omega arith) ∙ getD-
 pub others-differ : (t : List ℕ) (i j : ℕ) → Orderly t (i + 1) → j + rankAt t i ≤ i → same (pathAt t j) (pathAt t i) ≡ false
 others-differ t i j o h =
     differ (pathAt t j) (pathAt t i)
-    (λ e. let k : ownerAt t j ≡ ownerAt t i = sym (path-owner (recordAt t j)) ∙ ap (λ (p : Path). getD p 0 0) e ∙ path-owner (recordAt t i) in omega (arith, block t (i + 1) o i (omega arith) .before j h))
+    (λ e. let owner : (j : ℕ) → getD (pathAt t j) 0 0 ≡ ownerAt t j = λ j. path-owner (recordAt t j) in
+    let k : ownerAt t j ≡ ownerAt t i = sym (owner j) ∙ ap (λ (p : Path). getD p 0 0) e ∙ owner i in
+    omega (arith, block t (i + 1) o i (omega arith) .before j h))
 
 -- a record has 16 bytes
 pub record-length : (t : List ℕ) (i : ℕ) → i < records t → length (recordAt t i) ≡ 16
@@ -189,21 +228,18 @@ owner-bad-later t zero f = absurd (f refl)
 owner-bad-later t (suc i) f = let e : suc i - 1 ≡ i = omega arith in rw e
 
 pub rank-due-new : (t : List ℕ) (i : ℕ) → (i ≡ 0 → ⊥) → (ownerAt t i ≡ ownerAt t (i - 1) → ⊥) → rankDue t i ≡ 1
-unfolding rankDue
 rank-due-new t zero f g = absurd (f refl)
-rank-due-new t (suc i) f g =
-    let e : suc i - 1 ≡ i = omega arith in
-    rw (ne-eqb (ownerAt t (suc i)) (ownerAt t i) (λ q. g (q ∙ ap (ownerAt t) (sym e))), rankDue)
+rank-due-new t (suc i) f g = let e : suc i - 1 ≡ i = omega arith in due-new t i (rw e at g)
 
 pub rank-due-same : (t : List ℕ) (i : ℕ) → (i ≡ 0 → ⊥) → ownerAt t i ≡ ownerAt t (i - 1) → rankDue t i ≡ rankAt t (i - 1) + 1
-unfolding rankDue
 rank-due-same t zero f g = absurd (f refl)
 rank-due-same t (suc i) f g =
     let e : suc i - 1 ≡ i = omega arith in
-    rw (eq-eqb (ownerAt t (suc i)) (ownerAt t i) (g ∙ ap (ownerAt t) e), rankDue) (rw e (sym (add-one (rankAt t i))))
+    rw (e, add-one) (due-same t i (rw e at g))
 
 -- the tests of 6 and 10, from what was read of the record
-module _ (r R : List ℕ) (h : ℕ) (b : Bool) (e : r ≡ R) (k : h ≡ hopsOf R) (look : b ≡ anyIn (outside 255 255) (take (15 - (h + 3)) (drop (h + 3) r))) where
+module _ (r R : List ℕ) (h : ℕ) (b : Bool) (e : r ≡ R) (k : h ≡ hopsOf R)
+    (look : b ≡ anyIn (outside 255 255) (take (15 - (h + 3)) (drop (h + 3) r))) where
   unused-seen : anyIn (outside 255 255) (unusedOf R) ≡ b
   unused-seen = rw (← (unused-part R h k), ← e) (sym look)
 
@@ -236,13 +272,17 @@ module _ (t : List ℕ) (i : ℕ) where
     pub block-start : anyBelow samePath (i + 1 - x) ≡ false
     block-start = all-fail samePath (i + 1 - x) (λ j h. others-differ t i j o (omega arith))
 
-  module _ (j : ℕ) (come : anyBelow samePath j ≡ false) (b : Bool) where
-    pub path-hit : (p q : Path) → p ≡ pathAt t j → q ≡ pathAt t i → b ≡ same p q → j < i → b ≡ true → true ≡ pathBad t i
-    unfolding pathBad
-    path-hit p q e f g h k = sym (any-below samePath i j h (rw (← e, ← f) (sym g ∙ k)))
+  module _ (j : ℕ) (come : anyBelow samePath j ≡ false) (b : Bool) (p q : Path)
+      (e : p ≡ pathAt t j) (f : q ≡ pathAt t i) (look : b ≡ same p q) where
+    seen : samePath j ≡ b
+    seen = rw (← e, ← f) (sym look)
 
-    pub path-next : (p q : Path) → p ≡ pathAt t j → q ≡ pathAt t i → b ≡ same p q → b ≡ false → anyBelow samePath (j + 1) ≡ false
-    path-next p q e f g k = rw add-one (any-below-suc samePath j ∙ neither (anyBelow samePath j) (samePath j) come (rw (← e, ← f) (sym g ∙ k)))
+    pub path-hit : j < i → b ≡ true → true ≡ pathBad t i
+    unfolding pathBad
+    path-hit h k = sym (any-below samePath i j h (seen ∙ k))
+
+    pub path-next : b ≡ false → anyBelow samePath (j + 1) ≡ false
+    path-next k = rw add-one (any-below-suc samePath j ∙ neither (anyBelow samePath j) (samePath j) come (seen ∙ k))
 
   pub path-end : (j : ℕ) → anyBelow samePath j ≡ false → j ≤ i → i ≤ j → false ≡ pathBad t i
   unfolding pathBad

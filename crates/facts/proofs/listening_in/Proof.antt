@@ -43,7 +43,9 @@ loop-less c = omega arith
 loop-again : tie.Need-loop-again Inv-loop μ-loop
 loop-again c =
     let a = c .before .before .before .before .before .before in
-    (a .loop .inv .0, omega arith, c .before .mark-pair .ensures ∙ pairs-more _ _ _ _ _ (a .loop .inv .2) (c .before .before .before .owner-at .ensures) (c .before .before .next-at .ensures))
+    let more = pairs-more _ _ _ _ _ (a .loop .inv .2) (c .before .before .before .owner-at .ensures)
+    (c .before .before .next-at .ensures) in
+    (a .loop .inv .0, omega arith, c .before .mark-pair .ensures ∙ more)
 
 returns : tie.Need-returns Inv-loop μ-loop
 returns c = pairs-all _ _ _ (omega arith) (c .before .loop .inv .2)
@@ -51,4 +53,5 @@ returns c = pairs-all _ _ _ (omega arith) (c .before .loop .inv .2)
 pub listening-in-spec : {M : Type 1} → statement M
 listening-in-spec =
     tie.close
-    (tie.spec Inv-loop μ-loop loop-holds slice-aggregate-mark-pair owner-at-requires next-at-requires mark-pair-requires add-i loop-less loop-again returns)
+    (tie.spec Inv-loop μ-loop loop-holds slice-aggregate-mark-pair owner-at-requires next-at-requires
+    mark-pair-requires add-i loop-less loop-again returns)

@@ -42,8 +42,12 @@ loop-less c = omega arith
 
 loop-again : tie.Need-loop-again Inv-loop μ-loop
 loop-again c =
-    let a = c .before .before .before .before .before in
-    (a .loop .inv .0, omega arith, c .before .mark-all .ensures ∙ names-more _ _ _ _ (a .loop .inv .2) (c .before .before .path-at .ensures))
+    let a = c .before .before .before .before .before in (
+      a .loop .inv .0,
+      omega arith,
+      c .before .mark-all .ensures
+          ∙ names-more _ _ _ _ (a .loop .inv .2) (c .before .before .path-at .ensures),
+    )
 
 returns : tie.Need-returns Inv-loop μ-loop
 returns c = names-all _ _ _ (omega arith) (c .before .loop .inv .2)
@@ -51,4 +55,5 @@ returns c = names-all _ _ _ (omega arith) (c .before .loop .inv .2)
 pub present-in-spec : {M : Type 1} → statement M
 present-in-spec =
     tie.close
-    (tie.spec Inv-loop μ-loop array-write-named loop-holds slice-aggregate-mark-all path-at-requires mark-all-requires add-i loop-less loop-again returns)
+    (tie.spec Inv-loop μ-loop array-write-named loop-holds slice-aggregate-mark-all path-at-requires mark-all-requires
+    add-i loop-less loop-again returns)

@@ -50,8 +50,12 @@ loop-less-2 c = omega arith
 
 loop-again-2 : tie.Need-loop-again-2 Inv-loop μ-loop
 loop-again-2 c =
-    let a = c .before .before .before .before in
-    (a .loop .inv .0, omega arith, slots-full _ _ _ _ (a .loop .inv .2) _ (c .before .before .owner-at .ensures) (c .before .if1 .left) (c .if2 .taken))
+    let a = c .before .before .before .before in (
+      a .loop .inv .0,
+      omega arith,
+      slots-full _ _ _ _ (a .loop .inv .2) _
+          (c .before .before .owner-at .ensures) (c .before .if1 .left) (c .if2 .taken),
+    )
 
 cast-slots : tie.Need-cast-slots Inv-loop μ-loop
 cast-slots c = omega arith
@@ -82,8 +86,12 @@ loop-less-3 c = omega arith
 
 loop-again-3 : tie.Need-loop-again-3 Inv-loop μ-loop
 loop-again-3 c =
-    let a = c .before .before .before .before in
-    (a .loop .inv .0, omega arith, slots-store _ _ _ _ (a .loop .inv .2) _ (c .before .before .owner-at .ensures) (c .before .if1 .left) _ refl (c .if2 .left))
+    let a = c .before .before .before .before in (
+      a .loop .inv .0,
+      omega arith,
+      slots-store _ _ _ _ (a .loop .inv .2) _
+          (c .before .before .owner-at .ensures) (c .before .if1 .left) _ refl (c .if2 .left),
+    )
 
 returns : tie.Need-returns Inv-loop μ-loop
 returns c =
@@ -94,4 +102,6 @@ returns c =
 pub slots-of-spec : {M : Type 1} → statement M
 slots-of-spec =
     tie.close
-    (tie.spec Inv-loop μ-loop at-most-requires loop-holds add-i owner-at-requires cast-v loop-less loop-again mul-k array-read-k loop-less-2 loop-again-2 cast-slots mul-slots mul-slots-2 index-1-slots index-2-slots add-used mul-used array-write-used loop-less-3 loop-again-3 returns)
+    (tie.spec Inv-loop μ-loop at-most-requires loop-holds add-i owner-at-requires cast-v loop-less loop-again mul-k
+    array-read-k loop-less-2 loop-again-2 cast-slots mul-slots mul-slots-2 index-1-slots index-2-slots add-used
+    mul-used array-write-used loop-less-3 loop-again-3 returns)

@@ -6,7 +6,7 @@ use native.Mathlib.Omega.{arith}
 use borrow.Author.Needs.{needs}
 use lib.ListN.{length, drop}
 use Rattle.lists.specs.Search.{anyIn, outside}
-use Rattle.lists.specs.SearchLaws.{scan-hit, scan-next, scan-end}
+use Rattle.lists.specs.ListLaws.{scan-hit, scan-next, scan-end}
 use Rattle.parts.proofs.any_outside.Statement.{statement}
 use Rattle.parts.proofs.any_outside.Tie as tie
 
@@ -28,7 +28,8 @@ is-outside-requires c κs = search needs
 returns : tie.Need-returns Inv-loop μ-loop
 returns c =
     let a = c .before .before .before .before in
-    scan-hit _ _ 0 (a .loop .i) (a .loop .inv .1) (c .before .before .before .loop-test .taken) (sym (c .before .is-outside .ensures) ∙ c .if1 .taken)
+    scan-hit _ _ 0 (a .loop .i) (a .loop .inv .1) (c .before .before .before .loop-test .taken)
+    (sym (c .before .is-outside .ensures) ∙ c .if1 .taken)
 
 add-i : tie.Need-add-i Inv-loop μ-loop
 add-i c = omega arith
@@ -38,11 +39,14 @@ loop-less c = omega arith
 
 loop-again : tie.Need-loop-again Inv-loop μ-loop
 loop-again c =
-    let a = c .before .before .before .before in
-    (omega arith, scan-next _ _ 0 (a .loop .i) (a .loop .inv .1) (c .before .before .before .loop-test .taken) (sym (c .before .is-outside .ensures) ∙ c .if1 .left))
+    let a = c .before .before .before .before in (
+      omega arith,
+      scan-next _ _ 0 (a .loop .i) (a .loop .inv .1) (c .before .before .before .loop-test .taken)
+          (sym (c .before .is-outside .ensures) ∙ c .if1 .left),
+    )
 
 returns-2 : tie.Need-returns-2 Inv-loop μ-loop
-returns-2 c = scan-end _ _ (c .before .loop .i) (c .before .loop .inv .1) (c .loop-test .left)
+returns-2 c = scan-end _ _ 0 (c .before .loop .i) (c .before .loop .inv .1) (c .loop-test .left)
 
 pub any-outside-spec : {M : Type 1} → statement M
 any-outside-spec =

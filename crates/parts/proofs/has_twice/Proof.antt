@@ -6,7 +6,7 @@ use native.Mathlib.Omega.{arith}
 use borrow.Author.Needs.{needs}
 use lib.ListN.{length, drop}
 use Rattle.lists.specs.Search.{twice}
-use Rattle.lists.specs.TwiceLaws.{twice-hit, twice-next, twice-end}
+use Rattle.lists.specs.ListLaws.{twice-hit, twice-next, twice-end}
 use Rattle.parts.proofs.has_twice.Statement.{statement}
 use Rattle.parts.proofs.has_twice.Tie as tie
 
@@ -40,15 +40,19 @@ occurs-requires c κs = search needs
 returns : tie.Need-returns Inv-loop μ-loop
 returns c =
     let a = c .before .before .before .before .before in
-    twice-hit _ (a .loop .i) (a .loop .inv .1) (c .before .before .before .before .loop-test .taken) _ (c .before .occurs .ensures) (c .if1 .taken)
+    twice-hit _ (a .loop .i) (a .loop .inv .1) (c .before .before .before .before .loop-test .taken) _
+    (c .before .occurs .ensures) (c .if1 .taken)
 
 loop-less : tie.Need-loop-less Inv-loop μ-loop
 loop-less c = omega arith
 
 loop-again : tie.Need-loop-again Inv-loop μ-loop
 loop-again c =
-    let a = c .before .before .before .before .before in
-    (omega arith, twice-next _ (a .loop .i) (a .loop .inv .1) (c .before .before .before .before .loop-test .taken) _ (c .before .occurs .ensures) (c .if1 .left))
+    let a = c .before .before .before .before .before in (
+      omega arith,
+      twice-next _ (a .loop .i) (a .loop .inv .1) (c .before .before .before .before .loop-test .taken) _
+          (c .before .occurs .ensures) (c .if1 .left),
+    )
 
 returns-2 : tie.Need-returns-2 Inv-loop μ-loop
 returns-2 c = twice-end _ (c .before .loop .i) (c .before .loop .inv .1) (c .loop-test .left)
@@ -56,4 +60,5 @@ returns-2 c = twice-end _ (c .before .loop .i) (c .before .loop .inv .1) (c .loo
 pub has-twice-spec : {M : Type 1} → statement M
 has-twice-spec =
     tie.close
-    (tie.spec Inv-loop μ-loop loop-holds add-next shared-slice-read-occurs sub-occurs part-occurs-start part-occurs-end occurs-requires returns loop-less loop-again returns-2)
+    (tie.spec Inv-loop μ-loop loop-holds add-next shared-slice-read-occurs sub-occurs part-occurs-start
+    part-occurs-end occurs-requires returns loop-less loop-again returns-2)

@@ -37,8 +37,12 @@ loop-less c = omega arith
 loop-again : tie.Need-loop-again Inv-loop μ-loop
 loop-again c =
     let a = c .before .before .before .before .before .before in
-    let m = c .before .before .mark in
-    (omega arith, m .kept .0 ∙ a .loop .inv .1, marked-next _ _ (a .loop .k) _ _ (m .ensures) (c .before .before .before .before .before .loop-test .taken) (a .loop .inv .2))
+    let m = c .before .before .mark in (
+      omega arith,
+      m .kept .0 ∙ a .loop .inv .1,
+      marked-next _ _ (a .loop .k) _ _ (m .ensures)
+          (c .before .before .before .before .before .loop-test .taken) (a .loop .inv .2),
+    )
 
 same-length : tie.Need-same-length Inv-loop μ-loop
 same-length c = c .before .loop .inv .1

@@ -7,7 +7,7 @@ use borrow.Author.Tests.{eq-eqb, ne-eqb}
 use lib.ListN.{length, drop}
 use lib.Dec.{eqb}
 use Rattle.lists.specs.Search.{anyIn, elem}
-use Rattle.lists.specs.SearchLaws.{scan-hit, scan-next, scan-end}
+use Rattle.lists.specs.ListLaws.{scan-hit, scan-next, scan-end}
 use Rattle.parts.proofs.occurs.Statement.{statement}
 use Rattle.parts.proofs.occurs.Tie as tie
 
@@ -37,12 +37,15 @@ loop-less c = omega arith
 
 loop-again : tie.Need-loop-again Inv-loop μ-loop
 loop-again c =
-    let a = c .before .before .before in
-    (omega arith, scan-next _ _ 0 (a .loop .i) (a .loop .inv .1) (c .before .before .loop-test .taken) (ne-eqb _ _ (λ e. c .if1 .left (sym e))))
+    let a = c .before .before .before in (
+      omega arith,
+      scan-next _ _ 0 (a .loop .i) (a .loop .inv .1) (c .before .before .loop-test .taken)
+          (ne-eqb _ _ (λ e. c .if1 .left (sym e))),
+    )
 
 returns-2 : tie.Need-returns-2 Inv-loop μ-loop
 unfolding elem
-returns-2 c = scan-end _ _ (c .before .loop .i) (c .before .loop .inv .1) (c .loop-test .left)
+returns-2 c = scan-end _ _ 0 (c .before .loop .i) (c .before .loop .inv .1) (c .loop-test .left)
 
 pub occurs-spec : {M : Type 1} → statement M
 occurs-spec = tie.close (tie.spec Inv-loop μ-loop loop-holds shared-slice-read-if1 returns add-i loop-less loop-again returns-2)

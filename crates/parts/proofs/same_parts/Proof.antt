@@ -5,7 +5,7 @@ use Prim.Native.Nat.{_≤_, _-_}
 use native.Mathlib.Omega.{arith}
 use lib.ListN.{length, drop}
 use Rattle.lists.specs.Search.{same}
-use Rattle.lists.specs.SearchLaws.{same-lengths, same-hit, same-next, same-end}
+use Rattle.lists.specs.ListLaws.{same-lengths, same-hit, same-next, same-end}
 use Rattle.parts.proofs.same_parts.Statement.{statement}
 use Rattle.parts.proofs.same_parts.Tie as tie
 
@@ -40,8 +40,12 @@ loop-less c = omega arith
 
 loop-again : tie.Need-loop-again Inv-loop μ-loop
 loop-again c =
-    let a = c .before .before .before .before in
-    (omega arith, a .loop .inv .1, same-next _ _ (a .loop .i) (a .loop .inv .2) (a .loop .inv .1) (c .before .before .before .loop-test .taken) (c .if2 .left))
+    let a = c .before .before .before .before in (
+      omega arith,
+      a .loop .inv .1,
+      same-next _ _ (a .loop .i) (a .loop .inv .2) (a .loop .inv .1)
+          (c .before .before .before .loop-test .taken) (c .if2 .left),
+    )
 
 returns-3 : tie.Need-returns-3 Inv-loop μ-loop
 returns-3 c = same-end _ _ (c .before .loop .i) (c .before .loop .inv .2) (c .before .loop .inv .1) (c .loop-test .left)
@@ -49,4 +53,5 @@ returns-3 c = same-end _ _ (c .before .loop .i) (c .before .loop .inv .2) (c .be
 pub same-parts-spec : {M : Type 1} → statement M
 same-parts-spec =
     tie.close
-    (tie.spec Inv-loop μ-loop returns loop-holds shared-slice-read-if2 shared-slice-read-if2-2 returns-2 add-i loop-less loop-again returns-3)
+    (tie.spec Inv-loop μ-loop returns loop-holds shared-slice-read-if2 shared-slice-read-if2-2 returns-2 add-i
+    loop-less loop-again returns-3)

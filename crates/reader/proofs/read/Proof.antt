@@ -39,7 +39,8 @@ returns-3 c =
     let a = c .before .before .before in
     let f = c .before .fault-of .ensures in
     let bad = bad-here _ (a .loop .i) (a .loop .inv .3) _ f (c .if3 .taken) (omega arith) in
-    ap (λ (n : ℕ). Refused n (a .loop .i)) f ∙ sym (ap readingOf (refused-record _ (a .before .before .if1 .left) (a .before .if2 .left) (a .loop .i) bad))
+    ap (λ (n : ℕ). Refused n (a .loop .i)) f
+    ∙ sym (ap readingOf (refused-record _ (a .before .before .if1 .left) (a .before .if2 .left) (a .loop .i) bad))
 
 add-i : tie.Need-add-i Inv-loop μ-loop
 add-i c = omega arith
@@ -51,14 +52,19 @@ loop-again : tie.Need-loop-again Inv-loop μ-loop
 loop-again c =
     let a = c .before .before .before in
     let f = sym (c .before .fault-of .ensures) ∙ c .if3 .left in
-    let k = no-fault _ _ f in
-    (a .loop .inv .0, omega arith, orderly-more _ _ (a .loop .inv .2) (k .owner) (k .rank), good-here _ (a .loop .i) (a .loop .inv .3) f (omega arith))
+    let k = no-fault _ _ f in (
+      a .loop .inv .0,
+      omega arith,
+      orderly-more _ _ (a .loop .inv .2) (k .owner) (k .rank),
+      good-here _ (a .loop .i) (a .loop .inv .3) f (omega arith),
+    )
 
 returns-4 : tie.Need-returns-4 Inv-loop μ-loop
 unfolding readingOf
 returns-4 c =
     let a = c .before in
-    sym (ap readingOf (not-refused _ (a .before .before .if1 .left) (a .before .if2 .left) (none-bad _ (a .loop .i) (a .loop .inv .3) (omega arith))))
+    sym (ap readingOf (not-refused _ (a .before .before .if1 .left) (a .before .if2 .left)
+    (none-bad _ (a .loop .i) (a .loop .inv .3) (omega arith))))
 
 pub read-spec : {M : Type 1} → statement M
 read-spec =

@@ -82,7 +82,8 @@ unfolding recordRules rule inRecord
 returns-2 c = past-stop _ _ 1 _ _ refl (past1 (c .before .before)) (c .before .vertex-bad .ensures) (c .if2 .taken)
 
 filler-bad-requires : tie.Need-filler-bad-requires
-filler-bad-requires c κs = (start2 c .pre .0, hops-small _ _ _ (c .before .before .before .hops-bad .ensures) (c .before .before .if1 .left))
+filler-bad-requires c κs =
+    (start2 c .pre .0, hops-small _ _ _ (c .before .before .before .hops-bad .ensures) (c .before .before .if1 .left))
 
 returns-3 : tie.Need-returns-3
 unfolding recordRules rule inRecord
@@ -120,8 +121,11 @@ returns-7 c = past-stop _ _ 6 _ _ refl (past6 (c .before .before)) (c .before .r
 
 path-bad-requires : tie.Need-path-bad-requires
 path-bad-requires c κs =
-    let k = c .before .before in
-    (start7 c .pre .0, orderly-more _ _ (start7 c .pre .1) (sym (k .before .owner-bad .ensures) ∙ k .if6 .left) (sym (c .before .rank-bad .ensures) ∙ c .if7 .left))
+    let k = c .before .before in (
+      start7 c .pre .0,
+      orderly-more _ _ (start7 c .pre .1)
+          (sym (k .before .owner-bad .ensures) ∙ k .if6 .left) (sym (c .before .rank-bad .ensures) ∙ c .if7 .left),
+    )
 
 returns-8 : tie.Need-returns-8
 unfolding recordRules rule inRecord
@@ -134,4 +138,6 @@ returns-9 c = sym (past8 c)
 pub fault-of-spec : {M : Type 1} → statement M
 fault-of-spec =
     tie.close
-    (tie.spec hops-bad-requires returns vertex-bad-requires returns-2 filler-bad-requires returns-3 twice-bad-requires returns-4 last-bad-requires returns-5 owner-bad-requires returns-6 rank-bad-requires returns-7 path-bad-requires returns-8 returns-9)
+    (tie.spec hops-bad-requires returns vertex-bad-requires returns-2 filler-bad-requires returns-3 twice-bad-requires
+    returns-4 last-bad-requires returns-5 owner-bad-requires returns-6 rank-bad-requires returns-7 path-bad-requires
+    returns-8 returns-9)

@@ -44,9 +44,11 @@ is-outside-requires c κs = search needs
 returns-2 : tie.Need-returns-2
 returns-2 c =
     let k = c .before .before .before .before .before in
-    filler-rest _ _ _ _ (k .before .record-at .ensures .0) (k .hops-at .ensures) (c .before .before .before .any-outside .ensures) _ (c .before .before .if1 .left) (c .is-outside .ensures)
+    filler-rest _ _ _ _ (k .before .record-at .ensures .0) (k .hops-at .ensures) (c .before .before .before .any-outside .ensures) _
+    (c .before .before .if1 .left) (c .is-outside .ensures)
 
 pub filler-bad-spec : {M : Type 1} → statement M
 filler-bad-spec =
     tie.close
-    (tie.spec record-at-requires hops-at-requires cast-from add-from sub-any-outside part-any-outside-start part-any-outside-end any-outside-requires returns shared-slice-read-is-outside is-outside-requires returns-2)
+    (tie.spec record-at-requires hops-at-requires cast-from add-from sub-any-outside part-any-outside-start
+    part-any-outside-end any-outside-requires returns shared-slice-read-is-outside is-outside-requires returns-2)

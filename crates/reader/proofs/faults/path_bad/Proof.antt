@@ -48,7 +48,8 @@ same-parts-requires c κs = search needs
 returns : tie.Need-returns Inv-loop μ-loop
 returns c =
     let a = c .before .before .before .before in
-    path-hit _ _ _ (a .loop .inv .2) _ _ _ (c .before .before .path-at2 .ensures) (a .loop .inv .1) (c .before .same-parts .ensures) (c .before .before .before .loop-test .taken) (c .if1 .taken)
+    path-hit _ _ _ (a .loop .inv .2) _ _ _ (c .before .before .path-at2 .ensures) (a .loop .inv .1)
+    (c .before .same-parts .ensures) (c .before .before .before .loop-test .taken) (c .if1 .taken)
 
 add-j-2 : tie.Need-add-j-2 Inv-loop μ-loop
 add-j-2 c = omega arith
@@ -58,8 +59,12 @@ loop-less c = omega arith
 
 loop-again : tie.Need-loop-again Inv-loop μ-loop
 loop-again c =
-    let a = c .before .before .before .before in
-    (omega arith, a .loop .inv .1, path-next _ _ _ (a .loop .inv .2) _ _ _ (c .before .before .path-at2 .ensures) (a .loop .inv .1) (c .before .same-parts .ensures) (c .if1 .left))
+    let a = c .before .before .before .before in (
+      omega arith,
+      a .loop .inv .1,
+      path-next _ _ _ (a .loop .inv .2) _ _ _ (c .before .before .path-at2 .ensures)
+          (a .loop .inv .1) (c .before .same-parts .ensures) (c .if1 .left),
+    )
 
 returns-2 : tie.Need-returns-2 Inv-loop μ-loop
 returns-2 c = path-end _ _ (c .before .loop .j) (c .before .loop .inv .2) (c .before .loop .inv .0) (c .loop-test .left)
@@ -67,4 +72,5 @@ returns-2 c = path-end _ _ (c .before .loop .j) (c .before .loop .inv .2) (c .be
 pub path-bad-spec : {M : Type 1} → statement M
 path-bad-spec =
     tie.close
-    (tie.spec Inv-loop μ-loop path-at-requires add-j rank-at-requires cast-j sub-j loop-holds path-at-requires-2 same-parts-requires returns add-j-2 loop-less loop-again returns-2)
+    (tie.spec Inv-loop μ-loop path-at-requires add-j rank-at-requires cast-j sub-j loop-holds path-at-requires-2
+    same-parts-requires returns add-j-2 loop-less loop-again returns-2)

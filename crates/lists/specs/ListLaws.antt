@@ -1,0 +1,216 @@
+-- Laws of the elements of a list: whether any passes, the first that does, which numbers stand in it, which twice, and what same lists are.
+use mathlib.Core.Path.{_≡_, refl, sym, ap, _∙_}
+use mathlib.Core.Logic.{⊎-elim}
+use mathlib.Core.Bool.{Bool, true, false, _||_, or-assoc}
+use mathlib.Core.List.{List, [], _∷_, _++_}
+use mathlib.Core.Option.{none, some}
+use Prim.Native.Nat.{ℕ, zero, suc, _+_, _-_, _<_, _≤_}
+use native.Mathlib.Omega.{arith}
+use native.Mathlib.Nat.{not-suc-le-zero}
+use native.Mathlib.Numerals.{add-one}
+use lib.ListN.{length, getD, take, drop, drop-of-length-le}
+use lib.Seq.{drop-cons}
+use lib.Dec.{eqb}
+use borrow.Author.Tests.{eqb-true, eq-eqb, ne-eqb}
+use Rattle.lists.specs.Search.{anyIn, firstIn, elem, same, twice}
+use Rattle.lists.specs.Tests.{true≢, none≢some, by-test, by-equal, or-none, or-cases, or-left, or-right}
+use Rattle.lists.specs.Parts.{part-to-end}
+
+-- whether some element passes
+
+module _ {A : Type 0} (test : A → Bool) where
+  pub any-nil : anyIn test [] ≡ false
+  unfolding anyIn
+  any-nil = refl
+
+  pub any-cons : (x : A) (xs : List A) → anyIn test (x ∷ xs) ≡ test x || anyIn test xs
+  unfolding anyIn
+  any-cons x xs = refl
+
+  pub any-append : (xs ys : List A) → anyIn test (xs ++ ys) ≡ anyIn test xs || anyIn test ys
+  unfolding anyIn
+  any-append [] ys = refl
+  any-append (x ∷ xs) ys =
+      ap (λ (b : Bool). test x || b) (any-append xs ys) ∙ sym (or-assoc (test x) (anyIn test xs) (anyIn test ys))
+
+  pub any-at : (l : List A) (d : A) (k : ℕ) → k < length l → test (getD l k d) ≡ true → anyIn test l ≡ true
+  any-at [] d k h e = absurd (not-suc-le-zero h)
+  any-at (x ∷ xs) d zero h e = any-cons x xs ∙ or-left (test x) (anyIn test xs) e
+  any-at (x ∷ xs) d (suc k) h e = any-cons x xs ∙ or-right (test x) (anyIn test xs) (any-at xs d k (omega arith) e)
+
+  pub none-at : (l : List A) (d : A) → anyIn test l ≡ false → (k : ℕ) → k < length l → test (getD l k d) ≡ false
+  none-at l d e k h = by-test (test (getD l k d)) (λ q. absurd (true≢ (any-at l d k h q) e)) (λ q. q)
+
+  pub some-at : (l : List A) (d : A) → anyIn test l ≡ true → (k : ℕ) × (k < length l) × (test (getD l k d) ≡ true)
+  some-at [] d e = absurd (true≢ e any-nil)
+  some-at (x ∷ xs) d e =
+      ⊎-elim (λ q. (0, omega arith, q)) (λ q. let r = some-at xs d q in (suc (r .0), omega (arith, r .1), r .2))
+      (or-cases (test x) (anyIn test xs) (sym (any-cons x xs) ∙ e))
+
+  -- from the place i on: one element and the rest
+  any-drop : (l : List A) (d : A) (i : ℕ)
+      → i < length l
+      → anyIn test (drop i l) ≡ test (getD l i d) || anyIn test (drop (suc i) l)
+  any-drop l d i h = rw (drop-cons l i d h) (any-cons (getD l i d) (drop (suc i) l))
+
+  -- a scan of the list that has come to i, with the answer still to be found from there on
+
+  module _ (l : List A) (d : A) (i : ℕ) (come : anyIn test (drop i l) ≡ anyIn test l) where
+    pub scan-hit : i < length l → test (getD l i d) ≡ true → true ≡ anyIn test l
+    scan-hit h e = sym (any-drop l d i h ∙ or-left (test (getD l i d)) (anyIn test (drop (suc i) l)) e) ∙ come
+
+    pub scan-next : i < length l → test (getD l i d) ≡ false → anyIn test (drop (i + 1) l) ≡ anyIn test l
+    scan-next h e = sym (any-drop l d i h ∙ rw (e, add-one)) ∙ come
+
+    pub scan-end : length l ≤ i → false ≡ anyIn test l
+    scan-end h = sym (rw (drop-of-length-le l h) any-nil) ∙ come
+
+-- the first element that passes
+
+module _ {A : Type 0} (test : ℕ → A → Bool) where
+  pub first-in-nil : (i : ℕ) → firstIn test i [] ≡ none
+  unfolding firstIn
+  first-in-nil i = refl
+
+  pub first-in-hit : (i : ℕ) (x : A) (xs : List A) → test i x ≡ true → firstIn test i (x ∷ xs) ≡ some i
+  unfolding firstIn
+  first-in-hit i x xs e = rw (e, firstIn)
+
+  pub first-in-miss : (i : ℕ) (x : A) (xs : List A) → test i x ≡ false → firstIn test i (x ∷ xs) ≡ firstIn test (suc i) xs
+  unfolding firstIn
+  first-in-miss i x xs e = rw (e, firstIn)
+
+  -- none is found where every element fails, and only there
+
+  pub first-in-none : (l : List A) (d : A) (i : ℕ)
+      → firstIn test i l ≡ none
+      → (k : ℕ)
+      → k < length l
+      → test (i + k) (getD l k d) ≡ false
+  first-in-none [] d i e k h = absurd (not-suc-le-zero h)
+  first-in-none (x ∷ xs) d i e zero h =
+      let z : i + 0 ≡ i = omega arith in
+      by-test (test i x) (λ q. absurd (none≢some e (first-in-hit i x xs q))) (λ q. rw z q)
+  first-in-none (x ∷ xs) d i e (suc k) h =
+      let z : i + suc k ≡ suc i + k = omega arith in
+      by-test (test i x) (λ q. absurd (none≢some e (first-in-hit i x xs q)))
+      (λ q. rw z (first-in-none xs d (suc i) (sym (first-in-miss i x xs q) ∙ e) k (omega arith)))
+
+  pub all-fail-in : (l : List A) (d : A) (i : ℕ)
+      → ((k : ℕ) → k < length l → test (i + k) (getD l k d) ≡ false)
+      → firstIn test i l ≡ none
+  all-fail-in [] d i f = first-in-nil i
+  all-fail-in (x ∷ xs) d i f =
+      let z : i + 0 ≡ i = omega arith in
+      first-in-miss i x xs (rw z at (f 0 (omega arith))) ∙ all-fail-in xs d (suc i)
+      (λ k h. let y : suc i + k ≡ i + suc k = omega arith in rw y (f (suc k) (omega arith)))
+
+-- whether a number stands in a list
+
+pub elem-nil : (n : ℕ) → elem n [] ≡ false
+unfolding elem
+elem-nil n = any-nil (eqb n)
+
+pub elem-cons : (n x : ℕ) (xs : List ℕ) → elem n (x ∷ xs) ≡ eqb n x || elem n xs
+unfolding elem
+elem-cons n x xs = any-cons (eqb n) x xs
+
+pub elem-at : (l : List ℕ) (k : ℕ) → k < length l → elem (getD l k 0) l ≡ true
+unfolding elem
+elem-at l k h = any-at (eqb (getD l k 0)) l 0 k h (eq-eqb (getD l k 0) (getD l k 0) refl)
+
+pub elem-place : (n : ℕ) (l : List ℕ) → elem n l ≡ true → (k : ℕ) × (k < length l) × (getD l k 0 ≡ n)
+unfolding elem
+elem-place n l e = let r = some-at (eqb n) l 0 e in (r .0, r .1, sym (eqb-true n (getD l (r .0) 0) (r .2)))
+
+-- whether two lists of numbers are the same
+
+pub same-refl : (l : List ℕ) → same l l ≡ true
+unfolding same
+same-refl [] = refl
+same-refl (x ∷ xs) = rw (eq-eqb x x refl, same) (same-refl xs)
+
+same-cons : (x y : ℕ) (xs ys : List ℕ) → x ≡ y → same (x ∷ xs) (y ∷ ys) ≡ same xs ys
+unfolding same
+same-cons x y xs ys e = rw (eq-eqb x y e, same)
+
+same-heads : (x y : ℕ) (xs ys : List ℕ) → (x ≡ y → ⊥) → same (x ∷ xs) (y ∷ ys) ≡ false
+unfolding same
+same-heads x y xs ys f = rw (ne-eqb x y f, same)
+
+pub same-eq : (a b : List ℕ) → same a b ≡ true → a ≡ b
+unfolding same
+same-eq [] [] e = refl
+same-eq [] (y ∷ ys) e = absurd (true≢ e refl)
+same-eq (x ∷ xs) [] e = absurd (true≢ e refl)
+same-eq (x ∷ xs) (y ∷ ys) e =
+    by-equal x y
+    (λ h. let t : xs ≡ ys = same-eq xs ys (sym (same-cons x y xs ys h) ∙ e) in cc)
+    (λ h. absurd (true≢ e (same-heads x y xs ys h)))
+
+pub differ : (a b : List ℕ) → (a ≡ b → ⊥) → same a b ≡ false
+differ a b f = by-test (same a b) (λ q. absurd (f (same-eq a b q))) (λ q. q)
+
+pub differs : (a b : List ℕ) → same a b ≡ false → a ≡ b → ⊥
+differs a b e q = true≢ (rw q (same-refl b)) e
+
+-- two lists of different lengths differ; of equal lengths, a comparison that has come to i goes on with the elements there
+
+pub same-lengths : (a b : List ℕ) → (length a ≡ length b → ⊥) → same a b ≡ false
+same-lengths a b f = differ a b (λ e. f (ap length e))
+
+module _ (a b : List ℕ) (i : ℕ) (come : same (drop i a) (drop i b) ≡ same a b) (long : length a ≡ length b) where
+  come-on : i < length a → same (getD a i 0 ∷ drop (suc i) a) (getD b i 0 ∷ drop (suc i) b) ≡ same a b
+  come-on h = rw (← (drop-cons a i 0 h), ← (drop-cons b i 0 (rw long at h))) come
+
+  pub same-hit : i < length a → (getD a i 0 ≡ getD b i 0 → ⊥) → false ≡ same a b
+  same-hit h f = sym (same-heads (getD a i 0) (getD b i 0) (drop (suc i) a) (drop (suc i) b) f) ∙ come-on h
+
+  pub same-next : i < length a → getD a i 0 ≡ getD b i 0 → same (drop (i + 1) a) (drop (i + 1) b) ≡ same a b
+  same-next h e =
+      rw add-one (sym (same-cons (getD a i 0) (getD b i 0) (drop (suc i) a) (drop (suc i) b) e) ∙ come-on h)
+
+  pub same-end : length a ≤ i → true ≡ same a b
+  same-end h = sym (same-refl []) ∙ rw (drop-of-length-le a h, drop-of-length-le b (rw long at h)) at come
+
+-- no number stands twice: any two places differ, and the other way round
+
+pub twice-apart : (l : List ℕ) → twice l ≡ false → (i j : ℕ) → i < j → j < length l → getD l i 0 ≡ getD l j 0 → ⊥
+unfolding twice
+twice-apart [] t i j h k e = not-suc-le-zero k
+twice-apart (x ∷ l) t i zero h k e = not-suc-le-zero h
+twice-apart (x ∷ l) t zero (suc j) h k e = true≢ (rw e (elem-at l j (omega arith))) (or-none (elem x l) (twice l) t .0)
+twice-apart (x ∷ l) t (suc i) (suc j) h k e =
+    twice-apart l (or-none (elem x l) (twice l) t .1) i j (omega arith) (omega arith) e
+
+pub apart-twice : (l : List ℕ) → ((i j : ℕ) → i < j → j < length l → getD l i 0 ≡ getD l j 0 → ⊥) → twice l ≡ false
+unfolding twice
+apart-twice [] h = refl
+apart-twice (x ∷ l) h =
+    by-test (elem x l)
+    (λ q. let r = elem-place x l q in absurd (h 0 (suc (r .0)) (omega arith) (omega (arith, r .1)) (sym (r .2))))
+    (λ q. rw q (apart-twice l (λ i j a b. h (suc i) (suc j) (omega arith) (omega arith))))
+
+-- in a scan that has come to i, b says whether the number there stands again in the part behind it
+
+twice-drop : (p : List ℕ) (i : ℕ)
+    → i < length p
+    → twice (drop i p) ≡ elem (getD p i 0) (drop (suc i) p) || twice (drop (suc i) p)
+unfolding twice
+twice-drop p i h = rw (drop-cons p i 0 h)
+
+module _ (p : List ℕ) (i : ℕ) (come : twice (drop i p) ≡ twice p) where
+  module _ (h : i < length p) (b : Bool) (look : b ≡ elem (getD p i 0) (take (length p - (i + 1)) (drop (i + 1) p))) where
+    seen-later : elem (getD p i 0) (drop (suc i) p) ≡ b
+    seen-later = rw (← add-one, ← part-to-end) (sym look)
+
+    pub twice-hit : b ≡ true → true ≡ twice p
+    twice-hit e =
+        sym (or-left (elem (getD p i 0) (drop (suc i) p)) (twice (drop (suc i) p)) (seen-later ∙ e)) ∙ sym (twice-drop p i h) ∙ come
+
+    pub twice-next : b ≡ false → twice (drop (i + 1) p) ≡ twice p
+    twice-next e = rw add-one (sym (twice-drop p i h ∙ rw (seen-later ∙ e)) ∙ come)
+
+  pub twice-end : length p ≤ i → false ≡ twice p
+  unfolding twice
+  twice-end h = rw (drop-of-length-le p h) at come
