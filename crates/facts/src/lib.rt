@@ -4,14 +4,14 @@ ghost use Prim.Native.Nat.{min};
 ghost use Rattle.lists.specs.Fill.{tabulate};
 ghost use Rattle.rules.specs.Table.{records, longest, present, pathsOf, slotsOf, listensAt};
 ghost use Rattle.rules.specs.PassLaws.{pairMarked};
-use record::hops_at;
-use record::next_at;
-use record::owner_at;
-use record::path_at;
 use parts::at_most;
 use parts::larger;
 use parts::mark;
 use parts::mark_all;
+use record::hops_at;
+use record::next_at;
+use record::owner_at;
+use record::path_at;
 
 // The hops of the longest path, 0 where there is no record.
 pub fn longest_hops(t: &[u8]) -> u8

@@ -4,16 +4,16 @@ ghost use Prim.Native.Nat.{_+_, _≤_, _<_};
 ghost use Rattle.rules.specs.Table.{records, recordAt, hopsAt};
 ghost use Rattle.rules.specs.Refusals.{hopsBad, vertexBad, fillerBad, twiceBad, lastBad, ownerBad, rankDue, rankBad, pathBad, fault};
 ghost use Rattle.rules.specs.TableLaws.{Orderly};
-use record::hops_at;
-use record::owner_at;
-use record::path_at;
-use record::rank_at;
-use record::record_at;
 use parts::any_outside;
 use parts::byte_at;
 use parts::has_twice;
 use parts::is_outside;
 use parts::same_parts;
+use record::hops_at;
+use record::owner_at;
+use record::path_at;
+use record::rank_at;
+use record::record_at;
 
 // Refusal 4.
 pub(crate) fn hops_bad(t: &[u8], i: usize) -> bool

@@ -222,20 +222,25 @@ unused-part r h e =
 
 -- the rules that look at the record before, where there is one
 
-pub owner-bad-later : (t : List ℕ) (i : ℕ) → (i ≡ 0 → ⊥) → ownerBad t i ≡ ltb (ownerAt t i) (ownerAt t (i - 1))
-unfolding ownerBad
-owner-bad-later t zero f = absurd (f refl)
-owner-bad-later t (suc i) f = let e : suc i - 1 ≡ i = omega arith in rw e
+module _ (t : List ℕ) (i x y : ℕ) (later : i ≡ 0 → ⊥) (here : x ≡ ownerAt t i) (before : y ≡ ownerAt t (i - 1)) where
+  one-back : i ≡ suc (i - 1)
+  one-back = omega (arith, later)
 
-pub rank-due-new : (t : List ℕ) (i : ℕ) → (i ≡ 0 → ⊥) → (ownerAt t i ≡ ownerAt t (i - 1) → ⊥) → rankDue t i ≡ 1
-rank-due-new t zero f g = absurd (f refl)
-rank-due-new t (suc i) f g = let e : suc i - 1 ≡ i = omega arith in due-new t i (rw e at g)
+  pub owner-bad-later : ltb x y ≡ ownerBad t i
+  unfolding ownerBad
+  owner-bad-later = rw (here, before) (sym (ap (ownerBad t) one-back ∙ ap (λ (k : ℕ). ltb (ownerAt t k) (ownerAt t (i - 1))) (sym one-back)))
 
-pub rank-due-same : (t : List ℕ) (i : ℕ) → (i ≡ 0 → ⊥) → ownerAt t i ≡ ownerAt t (i - 1) → rankDue t i ≡ rankAt t (i - 1) + 1
-rank-due-same t zero f g = absurd (f refl)
-rank-due-same t (suc i) f g =
-    let e : suc i - 1 ≡ i = omega arith in
-    rw (e, add-one) (due-same t i (rw e at g))
+  pub rank-due-new : (x ≡ y → ⊥) → 1 ≡ rankDue t i
+  rank-due-new f = sym (ap (rankDue t) one-back ∙ due-new t (i - 1) (λ e. f (here ∙ ap (ownerAt t) one-back ∙ e ∙ sym before)))
+
+  pub rank-due-same : (n : ℕ) → x ≡ y → n ≡ rankAt t (i - 1) → n + 1 ≡ rankDue t i
+  rank-due-same n e r =
+      rw (r, add-one) (sym (ap (rankDue t) one-back ∙ due-same t (i - 1) (sym (ap (ownerAt t) one-back) ∙ sym here ∙ e ∙ before)))
+
+-- the test of 8, from what was read of the record
+pub last-seen : (r R : List ℕ) (h b : ℕ) (x : Bool) → r ≡ R → h ≡ hopsOf R → b ≡ getD r (h + 2) 0 → x ≡ outside 0 0 b → x ≡ lastBad R
+unfolding lastBad
+last-seen r R h b x e k m q = let n : h + 2 ≡ 2 + hopsOf R = omega arith in q ∙ rw (m, n, e)
 
 -- the tests of 6 and 10, from what was read of the record
 module _ (r R : List ℕ) (h : ℕ) (b : Bool) (e : r ≡ R) (k : h ≡ hopsOf R)

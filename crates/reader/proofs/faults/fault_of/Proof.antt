@@ -2,6 +2,7 @@
 -- Assumes nothing.
 use mathlib.Core.Path.{refl, sym, _∙_}
 use Prim.Native.Nat.{ℕ}
+use borrow.Author.Needs.{needs}
 use Rattle.rules.specs.Refusals.{recordRules, rule, inRecord, firstBroken}
 use Rattle.rules.specs.TableLaws.{Past, past-none, past-more, past-stop, hops-small, orderly-more}
 use Rattle.reader.proofs.faults.fault_of.Statement.{statement}
@@ -68,14 +69,14 @@ unfolding recordRules rule inRecord
 past8 c = past-more _ _ 7 _ _ refl (past7 (c .before .before)) (c .before .path-bad .ensures) (c .if8 .left)
 
 hops-bad-requires : tie.Need-hops-bad-requires
-hops-bad-requires c κs = c .before .pre .0
+hops-bad-requires c κs = search needs
 
 returns : tie.Need-returns
 unfolding recordRules rule inRecord
 returns c = past-stop _ _ 0 _ _ refl (past-none _ _) (c .before .hops-bad .ensures) (c .if1 .taken)
 
 vertex-bad-requires : tie.Need-vertex-bad-requires
-vertex-bad-requires c κs = start1 c .pre .0
+vertex-bad-requires c κs = search needs
 
 returns-2 : tie.Need-returns-2
 unfolding recordRules rule inRecord
@@ -90,30 +91,28 @@ unfolding recordRules rule inRecord
 returns-3 c = past-stop _ _ 2 _ _ refl (past2 (c .before .before)) (c .before .filler-bad .ensures) (c .if3 .taken)
 
 twice-bad-requires : tie.Need-twice-bad-requires
-twice-bad-requires c κs = start3 c .pre .0
+twice-bad-requires c κs = search needs
 
 returns-4 : tie.Need-returns-4
 unfolding recordRules rule inRecord
 returns-4 c = past-stop _ _ 3 _ _ refl (past3 (c .before .before)) (c .before .twice-bad .ensures) (c .if4 .taken)
 
 last-bad-requires : tie.Need-last-bad-requires
-last-bad-requires c κs =
-    let k = c .before .before .before .before .before .before in
-    (start4 c .pre .0, hops-small _ _ _ (k .before .hops-bad .ensures) (k .if1 .left))
+last-bad-requires c κs = search needs
 
 returns-5 : tie.Need-returns-5
 unfolding recordRules rule inRecord
 returns-5 c = past-stop _ _ 4 _ _ refl (past4 (c .before .before)) (c .before .last-bad .ensures) (c .if5 .taken)
 
 owner-bad-requires : tie.Need-owner-bad-requires
-owner-bad-requires c κs = start5 c .pre .0
+owner-bad-requires c κs = search needs
 
 returns-6 : tie.Need-returns-6
 unfolding recordRules rule inRecord
 returns-6 c = past-stop _ _ 5 _ _ refl (past5 (c .before .before)) (c .before .owner-bad .ensures) (c .if6 .taken)
 
 rank-bad-requires : tie.Need-rank-bad-requires
-rank-bad-requires c κs = start6 c .pre .0
+rank-bad-requires c κs = search needs
 
 returns-7 : tie.Need-returns-7
 unfolding recordRules rule inRecord

@@ -18,14 +18,14 @@ abbrev μ-loop : tie.MeasureT-loop
 μ-loop t i path j₀ j = i - j
 
 path-at-requires : tie.Need-path-at-requires Inv-loop μ-loop
-path-at-requires c κs = c .before .pre .0
+path-at-requires c κs = search needs
 
 add-j : tie.Need-add-j Inv-loop μ-loop
 unfolding records
 add-j c = omega arith
 
 rank-at-requires : tie.Need-rank-at-requires Inv-loop μ-loop
-rank-at-requires c κs = c .before .before .pre .0
+rank-at-requires c κs = search needs
 
 cast-j : tie.Need-cast-j Inv-loop μ-loop
 cast-j c = omega arith
@@ -40,7 +40,7 @@ loop-holds c =
     (omega arith, c .before .path-at .ensures, block-start _ _ o _ (c .rank-at .ensures))
 
 path-at-requires-2 : tie.Need-path-at-requires-2 Inv-loop μ-loop
-path-at-requires-2 c κs = omega (arith, c .before .before .before .before .before .pre .0)
+path-at-requires-2 c κs = search needs
 
 same-parts-requires : tie.Need-same-parts-requires Inv-loop μ-loop
 same-parts-requires c κs = search needs
