@@ -56,7 +56,7 @@ def accepted(make, count, rng):
 
 
 def full_ranks(count, rng):
-    """Owners with 15 to 18 paths, ranks running on: a rank of 17 follows on the one before and is refused all the same."""
+    """Owners with 15 to 18 paths, ranks running on, since 17 is refused even where it follows 16."""
     cases = []
     for _ in range(count):
         records = valid(rng, rng.sample(range(1, VERTICES), rng.randint(1, 4)), lambda: rng.randint(15, 18))
@@ -75,7 +75,10 @@ def with_byte(part, at, value):
 
 
 def other_than(rng, kept, top=255):
-    return rng.choice([value for value in range(top + 1) if value not in kept])
+    """Every other time a value just outside, since a limit that is off by one shows only there."""
+    others = [value for value in range(top + 1) if value not in kept]
+    near = [value for value in others if value in (min(kept) - 1, max(kept) + 1)]
+    return rng.choice(rng.choice([near, others]) or others)
 
 
 def hops_bad(rng, part, before):
@@ -186,14 +189,16 @@ def changed_byte(count, rng):
 
 
 def random_bytes(count, rng):
-    return [Case(rng.randbytes(rng.choice([rng.randrange(400), RECORD_BYTES * rng.randrange(30)]))) for _ in range(count)]
+    lengths = [rng.choice([rng.randrange(400), RECORD_BYTES * rng.randrange(30)]) for _ in range(count)]
+    return [Case(rng.randbytes(length)) for length in lengths]
 
 
 def likely_record(rng):
     """Each field near its limits, so that every rule has its turn."""
     hops = rng.choice([0, 1, 1, 2, 2, 3, 12, 13])
-    path = [rng.choice([1, 2, 3, 63, 63, rng.randrange(66)]) for _ in range(hops)] + [rng.choice([0] * 9 + [1])]
-    part = bytes([rng.choice([1, 1, 1, 2, 16, 17]), hops, *path]).ljust(15, b"\xff")[:15] + b"\x00"
+    path = [rng.choice([1, 2, 3, 63, 63, rng.randrange(66)]) for _ in range(hops)]
+    last = rng.choice([0] * 9 + [1])
+    part = bytes([rng.choice([1, 1, 1, 2, 16, 17]), hops, *path, last]).ljust(15, b"\xff")[:15] + b"\x00"
     return part if rng.randrange(9) else with_byte(part, rng.randrange(RECORD_BYTES), rng.randrange(256))
 
 

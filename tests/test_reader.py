@@ -59,8 +59,11 @@ def tearDownModule():
     print(f"test_reader: seed {SEED}, {compared.total()} cases, by number: {dict(sorted(compared.items()))}")
 
 
-def answers(words, lines):
-    return subprocess.run(words, input=lines, stdout=subprocess.PIPE, check=True).stdout.decode().splitlines()
+def run(words, cases):
+    """A program's exit status and its lines."""
+    lines = "".join(f"{case.table.hex()}\n" for case in cases).encode()
+    done = subprocess.run(words, input=lines, capture_output=True)
+    return done.returncode, done.stdout.decode().splitlines()
 
 
 def elements(field, word):
@@ -82,18 +85,30 @@ def difference(ours, theirs):
 class Reader(unittest.TestCase):
     """One test for each kind of table."""
 
+    def blame(self, kind, cases, number, reason):
+        self.fail(f"seed {SEED}, {kind}, case {number}: {reason}; table {cases[number].table.hex()}")
+
+    def answers(self, kind, words, cases):
+        """A program's line for each case; where it breaks off, each case alone shows at which."""
+        status, lines = run(words, cases)
+        if status != 0:
+            for number, case in enumerate(cases):
+                if run(words, [case])[0] != 0:
+                    self.blame(kind, cases, number, f"{words[0].name} ended with status {status}")
+        self.assertEqual((status, len(lines)), (0, len(cases)), f"seed {SEED}, {kind}, {words[0].name}")
+        return lines
+
     def compare(self, kind, cases):
         """Gives the number and place of each answer, once the two programs agree on all."""
-        lines = "".join(f"{case.table.hex()}\n" for case in cases).encode()
-        proved, second = answers([DRIVER], lines), answers([test_samples.SECOND, "batch"], lines)
-        self.assertEqual((len(proved), len(second)), (len(cases), len(cases)))
+        proved = self.answers(kind, [DRIVER], cases)
+        second = self.answers(kind, [test_samples.SECOND, "batch"], cases)
         heads = [tuple(map(int, line.split()[:2])) for line in proved]
         for number, (case, head, ours, theirs) in enumerate(zip(cases, heads, proved, second)):
             reason = difference(ours, theirs)
             if not reason and case.expected not in (None, head):
                 reason = f"both say {head}, and the table was made for {case.expected}"
             if reason:
-                self.fail(f"seed {SEED}, {kind}, case {number}: {reason}; table {case.table.hex()}")
+                self.blame(kind, cases, number, reason)
         compared.update(number for number, _ in heads)
         return heads
 

@@ -1,6 +1,6 @@
 -- The numbers from the reader's answers, and that a refusal's place is below 1,008, so that its code fits.
 use mathlib.Core.Path.{_≡_, refl, sym, ap, _∙_}
-use mathlib.Core.Bool.{Bool, true, false, cond, _&&_}
+use mathlib.Core.Bool.{Bool, true, false, cond}
 use mathlib.Core.List.{List, [], _∷_}
 use mathlib.Core.Option.{Option, none, some}
 use Prim.Native.Nat.{ℕ, zero, suc, _+_, _*_, _%_, _<_, _≤_}
@@ -10,15 +10,14 @@ use lib.ListN.{length, getD, List·getD-eq-default}
 use lib.Dec.{ltb, eqb}
 use mir.Val.{boolByte}
 use borrow.Author.Tests.{ltb-true, ltb-false, eqb-true, eqb-false, lt-ltb, le-ltb}
-use Rattle.lists.specs.Fill.{tabulate, padded}
+use Rattle.lists.specs.Fill.{tabulate}
 use Rattle.lists.specs.FillLaws.{tabulate-length, tabulate-at, padded-length}
 use Rattle.lists.specs.Tests.{by-test}
 use Rattle.lists.specs.SearchLaws.{first-found}
-use Rattle.rules.specs.Table.{records, owned, slotsOf}
+use Rattle.rules.specs.Table.{records, slotsOf}
 use Rattle.rules.specs.Refusals.{Refusal, refusal, faulty, firstBad}
 use Rattle.rules.specs.TableLaws.{refused-long, refused-ragged, refused-record, not-refused}
 use Rattle.reader.specs.Reading.{readingOf}
-use Rattle.reader.specs.declared.Reading.{Reading}
 use Rattle.reader.specs.declared.Reading.the-variants.{Accepted, Refused}
 use Rattle.probe.specs.Numbers.{codeOf, markOf, slotsIn, slotAt}
 
