@@ -1,0 +1,78 @@
+// The reader for tests outside Rattle: exported functions that take a table and give one number, thin over the reader.
+ghost use mathlib.Core.Path.{_≡_};
+ghost use Rattle.rules.specs.Table.{longest, present, pathsOf, listensAt};
+ghost use Rattle.rules.specs.Refusals.{refusal};
+ghost use Rattle.probe.specs.Numbers.{codeOf, markOf, slotAt};
+use reader::Reading;
+use facts::listening_in;
+use facts::longest_hops;
+use facts::present_in;
+use facts::slots_of;
+use reader::read;
+
+// 0 where the table is accepted, otherwise the refusal's number plus 256 times its place.
+#[no_mangle]
+pub extern "C" fn probe_read(table: &[u8]) -> u64
+    ensures { λ r. ⌜ r ≡ codeOf (refusal (now (table .entry))) ⌝ }
+{
+    let answer = read(table);
+    let Reading::Refused(number, place) = answer else {
+        return 0;
+    };
+    number as u64 + 256 * (place as u64)
+}
+
+// The hops of the longest path.
+#[no_mangle]
+pub extern "C" fn probe_longest(table: &[u8]) -> u64
+    ensures { λ r. ⌜ r ≡ longest (now (table .entry)) ⌝ }
+{
+    longest_hops(table) as u64
+}
+
+// 1 where v is a vertex that is present, otherwise 0.
+#[no_mangle]
+pub extern "C" fn probe_present(table: &[u8], v: u64) -> u64
+    ensures { λ r. ⌜ r ≡ markOf (present (now (table .entry))) 64 v ⌝ }
+{
+    if 64 <= v {
+        return 0;
+    }
+    let marks = present_in(table);
+    marks[v as usize] as u64
+}
+
+// 1 where the pair, 64 times the listener plus the speaker, is a listening pair, otherwise 0.
+#[no_mangle]
+pub extern "C" fn probe_listens(table: &[u8], pair: u64) -> u64
+    ensures { λ r. ⌜ r ≡ markOf (listensAt (pathsOf (now (table .entry)))) 4096 pair ⌝ }
+{
+    if 4096 <= pair {
+        return 0;
+    }
+    let marks = listening_in(table);
+    marks[pair as usize] as u64
+}
+
+// A function of its own, since the cast of an element in place would ask again that the element fits.
+fn wide(number: u16) -> u64
+    ensures { λ r. ⌜ r ≡ number ⌝ }
+{
+    number as u64
+}
+
+// The record in slot k of v, 65,535 where the slot is empty or there is none.
+#[no_mangle]
+pub extern "C" fn probe_slot(table: &[u8], v: u64, k: u64) -> u64
+    ensures { λ r. ⌜ r ≡ slotAt (now (table .entry)) v k ⌝ }
+{
+    if 64 <= v {
+        return 65535;
+    }
+    if 16 <= k {
+        return 65535;
+    }
+    let slots = slots_of(table);
+    let row = slots[v as usize];
+    wide(row[k as usize])
+}
