@@ -3,11 +3,11 @@ ghost use mathlib.Core.Path.{_≡_};
 ghost use Rattle.rules.specs.Table.{longest, present, pathsOf, listensAt};
 ghost use Rattle.rules.specs.Refusals.{refusal};
 ghost use Rattle.probe.specs.Numbers.{codeOf, markOf, slotAt};
-use reader::Reading;
 use facts::listening_in;
 use facts::longest_hops;
 use facts::present_in;
 use facts::slots_of;
+use reader::Reading;
 use reader::read;
 
 // 0 where the table is accepted, otherwise the refusal's number plus 256 times its place.

@@ -150,7 +150,7 @@ module _ (t : List ℕ) (e : refusal t ≡ none) (v : ℕ) where
   pub ranks-count : (k : ℕ) → k < length (owned t (records t) v) → rankAt t (getD (owned t (records t) v) k 0) ≡ suc k
   ranks-count k l = let m : k < here .size = omega (arith, owned-length) in rw (owned-at k m) (here .ranks k m)
 
-  paths-length : length (pathsOf t v) ≡ here .size
+  pub paths-length : length (pathsOf t v) ≡ here .size
   unfolding pathsOf pathsBelow
   paths-length = length-map (owned t (records t) v) (pathAt t) ∙ owned-length
 
@@ -181,7 +181,7 @@ module _ (t : List ℕ) (e : refusal t ≡ none) (i : ℕ) (h : i < records t) w
   unfolding hopsBad
   hops-range = inside 1 12 (hopsAt t i) (keeps .hops)
 
-  path-length : length (pathAt t i) ≡ suc (hopsAt t i)
+  pub path-length : length (pathAt t i) ≡ suc (hopsAt t i)
   unfolding pathOf
   path-length =
       length-take (suc (hopsAt t i)) (drop 2 (recordAt t i)) ∙ omega (arith, length-drop 2 (recordAt t i), sixteen, hops-range)

@@ -20,3 +20,4 @@ pub mod RingLaws
 pub mod ReportLaws
 pub mod PassLaws
 pub mod Accepted
+pub mod Sanity
