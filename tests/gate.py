@@ -20,6 +20,8 @@ LOGS = ROOT / ".build" / "log"
 COUNTS = re.compile(r"(\d+) passed, (\d+) failed")
 # How the prover names what fails: at a proof file, and at a function that has none.
 COMPLAINT = re.compile(r"\berror[:\[]|it is not proved that")
+# What the prover says first where an edit only made the proof file unfit for the code, so that no fact was tried.
+MISFITS = ("has no `Need-", "is not in scope", "a dimension (`0`, `1` or an interval variable) is expected here")
 LONGEST_LINE = 300
 
 
@@ -97,7 +99,7 @@ def edit_fault(log):
     first = next((line for line in lines if COMPLAINT.search(line)), None)
     if first is None:
         return "its log names no fact that fails"
-    if "has no `Need-" in first:
+    if any(words in first for words in MISFITS):
         return "its first error only says that the proof file no longer fits"
     return None
 

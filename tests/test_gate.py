@@ -45,6 +45,11 @@ class Edits(Folder):
         why = "its first error only says that the proof file no longer fits"
         self.assertEqual(counts, (0, [f"must-fail reader/weak: {why}"], ()))
 
+    def test_other_misfits_are_named(self):
+        for words in gate.MISFITS:
+            counts = self.judged(f"a/proofs/f/Proof.antt:27:11: error: `add`: {words}\n" + GOOD)
+            self.assertEqual((counts.passed, len(counts.failures)), (0, 1))
+
     def test_a_label_that_speaks_of_an_error_is_no_error(self):
         note = "target/must-fail/reader/error_lost/src/lib.rt: note: nothing\n"
         counts = self.judged(note + MISFIT, "error_lost", "error_lost.edit")

@@ -1,2 +1,3 @@
--- What the contracts of the reader cite beside the rules.
+-- The answer of the reader.
 pub mod Reading
+pub mod ReadingLaws

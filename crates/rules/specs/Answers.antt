@@ -1,4 +1,5 @@
--- The rules page, "Refusal numbers, in order of checking", for each entry, and what each entry gives back and leaves in the lent buffers, for all inputs.
+-- The rules page, "Refusal numbers, in order of checking", for each entry, and what each entry gives back and leaves in the lent
+-- buffers, for all inputs.
 use Prim.Native.Nat.{ℕ, zero, suc, _%_}
 use mathlib.Core.Bool.{Bool, true, false, not, _||_}
 use mathlib.Core.List.{List, [], _∷_}
@@ -8,27 +9,11 @@ use lib.IntN.{ℤ, pos}
 use lib.Dec.{ltb}
 use Rattle.lists.specs.Search.{firstIn, outside}
 use Rattle.rules.specs.Table.{Path, pathsOf, listens}
-use Rattle.rules.specs.Refusals.{Refusal, refusal}
+use Rattle.rules.specs.Refusals.{Refusal, refusedIf, refusedAt, _orElse_, refusal}
 use Rattle.rules.specs.Report.{report}
 use Rattle.rules.specs.Machine.{Pair, heardFault, step, movement}
 use Rattle.rules.specs.Run.{pairsIn, run}
 
--- a refusal where the test holds
-unfoldable pub refusedIf : Bool → ℕ → Option Refusal
-refusedIf true n = some (record { number = n; place = 0 })
-refusedIf false n = none
-
--- a refusal with the place that was found, if one was
-unfoldable pub refusedAt : Option ℕ → ℕ → Option Refusal
-refusedAt none n = none
-refusedAt (some k) n = some (record { number = n; place = k })
-
--- "in order of checking"
-unfoldable pub _orElse_ : Option Refusal → Option Refusal → Option Refusal
-none orElse b = b
-(some r) orElse b = some r
-
-infixr 20 _orElse_
 -- "1: a lent rows, ring, state or movement buffer .. has another length"
 unfoldable pub otherLength : {A : Type 0} → ℕ → List A → Bool
 otherLength n buffer = outside n n (length buffer)
@@ -47,11 +32,18 @@ checkRefusal t rows ring = refusedIf (otherLength 1024 rows || otherLength 64 ri
 
 unfoldable pub stepRefusal : List ℕ → List ℕ → Pair → Option Refusal
 stepRefusal t heard p =
-    refusedIf (otherLength 4096 heard) 1 orElse refusal t orElse refusedAt (heardFault (pathsOf t) heard) 12 orElse refusedAt (firstBadPair (pathsOf t) (p ∷ [])) 14
+    refusedIf (otherLength 4096 heard) 1
+    orElse refusal t
+    orElse refusedAt (heardFault (pathsOf t) heard) 12
+    orElse refusedAt (firstBadPair (pathsOf t) (p ∷ [])) 14
 
 unfoldable pub runRefusal : List ℕ → List ℕ → List ℕ → List ℤ → Option Refusal
 runRefusal t heard s sums =
-    refusedIf (otherLength 4096 heard || otherLength 64 sums) 1 orElse refusal t orElse refusedAt (heardFault (pathsOf t) heard) 12 orElse refusedIf (scheduleBad s) 13 orElse refusedAt (firstBadPair (pathsOf t) (pairsIn s)) 14
+    refusedIf (otherLength 4096 heard || otherLength 64 sums) 1
+    orElse refusal t
+    orElse refusedAt (heardFault (pathsOf t) heard) 12
+    orElse refusedIf (scheduleBad s) 13
+    orElse refusedAt (firstBadPair (pathsOf t) (pairsIn s)) 14
 
 -- "A refusal's other numbers are 0 and no lent byte changes."
 unfoldable pub unless : {A : Type 0} → Option Refusal → A → A → A

@@ -11,13 +11,13 @@ use Rattle.lists.specs.Search.{outside, firstFrom, anyBelow, countBelow, thoseB
 use Rattle.lists.specs.Fill.{tabulate, blocks, padded}
 use Rattle.lists.specs.Fold.{foldLeft}
 use Rattle.rules.specs.Table.{Path, recordAt, records, rankOf, hopsOf, pathOf, ownerOf, owned, pathsBelow, pathsOf, present, longest, nextHop, rest, first, listens}
-use Rattle.rules.specs.Refusals.{hopsBad, vertexBad, unusedOf, fillerBad, twiceBad, lastBad, ownerBad, rankDue, rankBad, pathBad, inRecord, rule, recordRules, firstBroken, fault, faulty, firstBad, tooLong, ragged, refusal}
+use Rattle.rules.specs.Refusals.{hopsBad, vertexBad, unusedOf, fillerBad, twiceBad, lastBad, ownerBad, rankDue, rankBad, pathBad, inRecord, rule, recordRules, firstBroken, fault, faulty, firstBad, tooLong, ragged, refusal, refusedIf, refusedAt, _orElse_, badRecord}
 use Rattle.rules.specs.Greedy.{isSettled, compatible, atStart, best, judged, stage, settledList, settled, enters, quiet, stageCount, stageOf, stuckIn, follows, fromVertex, beforeVertex, closedPart, lowestOf, turned, ringFrom}
 use Rattle.rules.specs.Stable.{extends, bestGiven}
 use Rattle.rules.specs.Report.{Report, placeIn, rankIn, rowBytes, row, report}
 use Rattle.rules.specs.Machine.{Pair, offsetOf, speaks, byteFor, pathFor, badByte, heardFault, lastHeard, choice, step, standingOf, standing, movement}
 use Rattle.rules.specs.Run.{Tally, pairsIn, isUp, isDown, more, listeningOffsets, closes, begun, activated, run}
-use Rattle.rules.specs.Answers.{refusedIf, refusedAt, _orElse_, otherLength, scheduleBad, firstBadPair, runRefusal}
+use Rattle.rules.specs.Answers.{otherLength, scheduleBad, firstBadPair, runRefusal}
 
 -- A block is an owner's paths, best first; its bytes are a record for each.
 unfoldable pub recordBytes : ℕ → Path → List ℕ
@@ -178,7 +178,7 @@ unfolding refusedIf refusedAt _orElse_ otherLength scheduleBad firstBadPair runR
     countBelow thoseBelow anyIn firstIn elem same maxBelow tabulate blocks padded foldLeft recordAt records rankOf
     hopsOf pathOf ownerOf owned pathsBelow pathsOf present longest nextHop rest first listens hopsBad vertexBad
     unusedOf fillerBad twice twiceBad lastBad ownerBad rankDue rankBad pathBad inRecord rule recordRules firstBroken
-    fault faulty firstBad tooLong ragged refusal isSettled compatible atStart best judged stage settledList settled
+    fault faulty firstBad badRecord tooLong ragged refusal isSettled compatible atStart best judged stage settledList settled
     enters quiet stageCount stageOf stuckIn follows fromVertex beforeVertex closedPart lowestOf turned ringFrom
     extends bestGiven placeIn rankIn rowBytes row report offsetOf speaks byteFor pathFor badByte heardFault lastHeard
     choice step standingOf standing movement pairsIn isUp isDown more listeningOffsets closes begun activated run

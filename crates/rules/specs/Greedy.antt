@@ -7,7 +7,7 @@ use lib.ListN.{getD}
 use lib.Dec.{eqb}
 use Rattle.lists.specs.Search.{anyBelow, elem, firstFrom, same}
 use Rattle.lists.specs.Fill.{tabulate}
-use Rattle.rules.specs.Table.{Path, first, nextHop, rest}
+use Rattle.rules.specs.Table.{Path, first, nextHop}
 
 -- What is settled: none for "not yet", a path, or [] for "settled without a path".
 abbrev pub Settled : Type 0
@@ -17,7 +17,8 @@ unfoldable pub isSettled : Option Path → Bool
 isSettled none = false
 isSettled (some p) = true
 
--- "compatible if, at its first settled vertex, the rest of the path from there equals that vertex's settled path"; no path from there equals [], so "A vertex settled without a path makes every path through it incompatible."
+-- "compatible if, at its first settled vertex, the rest of the path from there equals that vertex's settled path"; no such rest
+-- equals [], so "A vertex settled without a path makes every path through it incompatible."
 unfoldable pub compatible : Settled → Path → Bool
 compatible S [] = false
 compatible S (v ∷ p) = elim (S v) [ none ↦ compatible S p | some q ↦ same (v ∷ p) q ]
@@ -26,15 +27,20 @@ compatible S (v ∷ p) = elim (S v) [ none ↦ compatible S p | some q ↦ same 
 unfoldable pub atStart : Settled
 atStart v = elim (eqb v 0) [ true ↦ some (0 ∷ []) | false ↦ none ]
 
+-- How a vertex with that best compatible path is judged: "no compatible path: settles without a path; best compatible path has a
+-- settled next hop: settles with that path; otherwise it waits."
+unfoldable pub judged : Settled → Path → Option Path
+judged S [] = some []
+judged S (v ∷ p) = elim (isSettled (S (nextHop (v ∷ p)))) [ true ↦ some (v ∷ p) | false ↦ none ]
+
+-- "those left are stuck", for the last settled set
+unfoldable pub stuckIn : (ℕ → Bool) → Settled → ℕ → Bool
+stuckIn present S v = present v && not (isSettled (S v))
+
 module _ (paths : ℕ → List Path) where
   -- the best compatible path
   unfoldable pub best : Settled → ℕ → Path
   best S v = first (compatible S) (paths v)
-
-  -- "no compatible path: settles without a path; best compatible path has a settled next hop: settles with that path; otherwise it waits."
-  unfoldable pub judged : Settled → Path → Option Path
-  judged S [] = some []
-  judged S (v ∷ p) = elim (isSettled (S (nextHop (v ∷ p)))) [ true ↦ some (v ∷ p) | false ↦ none ]
 
   module _ (present : ℕ → Bool) where
     -- "In a stage all present unsettled vertices are judged against the same settled set."
@@ -63,10 +69,6 @@ module _ (paths : ℕ → List Path) where
     -- the stage at which v settled
     unfoldable pub stageOf : ℕ → ℕ
     stageOf v = elim (firstFrom (λ k. isSettled (settled k v)) 0 64) [ none ↦ 64 | some k ↦ k ]
-
-    -- "those left are stuck", for the last settled set
-    unfoldable pub stuckIn : Settled → ℕ → Bool
-    stuckIn S v = present v && not (isSettled (S v))
 
 -- "go to the next hop of its best compatible path"
 unfoldable pub follows : (ℕ → List Path) → Settled → ℕ → ℕ

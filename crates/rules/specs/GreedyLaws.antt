@@ -60,7 +60,7 @@ module _ (paths : ℕ → List Path) (present : ℕ → Bool) where
   stage-keeps S v p e = rw (e, stage)
 
   -- it judges a present unsettled vertex, and no other
-  pub stage-judges : (S : Settled) (v : ℕ) → S v ≡ none → present v ≡ true → stage paths present S v ≡ judged paths S (best paths S v)
+  pub stage-judges : (S : Settled) (v : ℕ) → S v ≡ none → present v ≡ true → stage paths present S v ≡ judged S (best paths S v)
   unfolding stage
   stage-judges S v e p = rw (e, p, stage)
 
@@ -97,7 +97,7 @@ module _ (paths : ℕ → List Path) (present : ℕ → Bool) where
       rw z at (settled-later 0 k 0 (0 ∷ []) (settled-zero 0 (omega arith)))
 
   -- whoever is judged to settle does so with the path judged
-  pub judged-path : (S : Settled) (q p : Path) → judged paths S q ≡ some p → p ≡ q
+  pub judged-path : (S : Settled) (q p : Path) → judged S q ≡ some p → p ≡ q
   unfolding judged
   judged-path S [] p e = cc
   judged-path S (v ∷ q) p e =
@@ -106,7 +106,7 @@ module _ (paths : ℕ → List Path) (present : ℕ → Bool) where
       (λ r. absurd (none≢some {o = none} refl (rw (r, judged) at e)))
 
   -- which is none or has a settled next hop
-  pub judged-next : (S : Settled) (q p : Path) → judged paths S q ≡ some p → (q ≡ []) ⊎ (isSettled (S (nextHop q)) ≡ true)
+  pub judged-next : (S : Settled) (q p : Path) → judged S q ≡ some p → (q ≡ []) ⊎ (isSettled (S (nextHop q)) ≡ true)
   unfolding judged
   judged-next S [] p e = inl refl
   judged-next S (v ∷ q) p e =
@@ -118,7 +118,7 @@ module _ (paths : ℕ → List Path) (present : ℕ → Bool) where
     pub before : at < k
     pub new : settled paths present at v ≡ none
     pub here : present v ≡ true
-    pub judgement : judged paths (settled paths present at) (best paths (settled paths present at) v) ≡ some p
+    pub judgement : judged (settled paths present at) (best paths (settled paths present at) v) ≡ some p
 
   pub entered : (k v : ℕ) (p : Path) → v ≢ 0 → settled paths present k v ≡ some p → Entry k v p
   unfolding atStart

@@ -1,23 +1,26 @@
 -- The definitions, in the order of the rules page.
 pub mod Table
-pub mod Refusals
 pub mod Greedy
 pub mod Stable
 pub mod Report
 pub mod Machine
 pub mod Run
+pub mod Refusals
 pub mod Answers
 -- The worked examples.
 pub mod Examples
--- The laws.
+-- The laws of accepted tables, and all of them in one place.
 pub mod Shape
+pub mod Accepted
+pub mod Blocks
+pub mod ShapeLaws
+pub mod Sanity
+-- The laws of the definitions that those and the proofs of the code use.
 pub mod TableLaws
+pub mod PassLaws
 pub mod PathLaws
-pub mod MachineLaws
-pub mod RunLaws
 pub mod GreedyLaws
 pub mod RingLaws
 pub mod ReportLaws
-pub mod PassLaws
-pub mod Accepted
-pub mod Sanity
+pub mod MachineLaws
+pub mod RunLaws

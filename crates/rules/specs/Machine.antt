@@ -20,6 +20,11 @@ pub record Pair : Type 0 where
 unfoldable pub offsetOf : Pair → ℕ
 offsetOf p = 64 * p .listener + p .speaker
 
+-- "Standing is 17 minus the rank of the choice, or 0 for none."
+unfoldable pub standingOf : ℕ → ℕ
+standingOf zero = 0
+standingOf (suc r) = 16 - r
+
 module _ (paths : ℕ → List Path) where
   -- what u can speak of: its paths, best first; "for u = 0 the value 1 means (0)"
   unfoldable pub speaks : ℕ → List Path
@@ -32,7 +37,8 @@ module _ (paths : ℕ → List Path) where
   unfoldable pub pathFor : ℕ → ℕ → Path
   pathFor u b = getD ([] ∷ speaks u) b []
 
-  -- "It is valid if every byte not at a listening pair is 0, and every other is at most the number of u's records (at most 1 for u = 0)."
+  -- "It is valid if every byte not at a listening pair is 0, and every other is at most the number of u's records (at most 1 for
+  -- u = 0)."
   unfoldable pub badByte : ℕ → ℕ → Bool
   badByte k b = elim (eqb b 0) [ true ↦ false | false ↦ not (listens paths (k / 64) (k % 64)) || ltb (length (speaks (k % 64))) b ]
 
@@ -42,20 +48,17 @@ module _ (paths : ℕ → List Path) where
 
   -- what v last heard from u
   unfoldable pub lastHeard : List ℕ → ℕ → ℕ → Path
-  lastHeard heard v u = elim (ltb u 64) [ true ↦ pathFor u (getD heard (offsetOf (record { listener = v; speaker = u })) 0) | false ↦ [] ]
+  lastHeard heard v u =
+      elim (ltb u 64) [ true ↦ pathFor u (getD heard (offsetOf (record { listener = v; speaker = u })) 0) | false ↦ [] ]
 
-  -- "The choice of v is the first of its records, in rank order, whose rest is what v last heard from the next hop; or none. The destination's choice is always (0)"
+  -- "The choice of v is the first of its records, in rank order, whose rest is what v last heard from the next hop; or none. The
+  -- destination's choice is always (0)"
   unfoldable pub choice : List ℕ → ℕ → Path
   choice heard v = elim (eqb v 0) [ true ↦ 0 ∷ [] | false ↦ bestGiven paths (lastHeard heard v) v ]
 
   -- "A step at pair (v, u) stores u's present choice at 64v+u and nothing else."
   unfoldable pub step : List ℕ → Pair → List ℕ
   step heard p = set heard (offsetOf p) (byteFor (p .speaker) (choice heard (p .speaker)))
-
-  -- "Standing is 17 minus the rank of the choice, or 0 for none."
-  unfoldable pub standingOf : ℕ → ℕ
-  standingOf zero = 0
-  standingOf (suc r) = 16 - r
 
   unfoldable pub standing : List ℕ → ℕ → ℕ
   standing heard v = standingOf (rankIn paths v (choice heard v))

@@ -212,7 +212,7 @@ module _ (paths : ℕ → List Path) where
   rank-tells heard v h = place-tells (choice paths heard v) (paths v) (rw (speaks-other v h) at (choice-spoken heard v))
 
   -- the standing of a rank is at most 16
-  standing-of-most : (r : ℕ) → standingOf paths r ≤ 16
+  standing-of-most : (r : ℕ) → standingOf r ≤ 16
   unfolding standingOf
   standing-of-most zero = omega arith
   standing-of-most (suc r) = omega arith
@@ -230,7 +230,7 @@ module _ (paths : ℕ → List Path) where
       (standing-most (step paths heard p) (p .listener)) (standing-most heard (p .listener))
 
   -- ranks up to 16 are told by their standings
-  standing-of-tells : (r s : ℕ) → r ≤ 16 → s ≤ 16 → standingOf paths r ≡ standingOf paths s → r ≡ s
+  standing-of-tells : (r s : ℕ) → r ≤ 16 → s ≤ 16 → standingOf r ≡ standingOf s → r ≡ s
   unfolding standingOf
   standing-of-tells zero zero h l e = refl
   standing-of-tells zero (suc s) h l e = omega arith

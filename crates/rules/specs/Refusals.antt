@@ -13,6 +13,22 @@ pub record Refusal : Type 0 where
   pub number : ℕ
   pub place : ℕ
 
+-- a refusal where the test holds
+unfoldable pub refusedIf : Bool → ℕ → Option Refusal
+refusedIf true n = some (record { number = n; place = 0 })
+refusedIf false n = none
+
+-- a refusal with the place that was found, if one was
+unfoldable pub refusedAt : Option ℕ → ℕ → Option Refusal
+refusedAt none n = none
+refusedAt (some k) n = some (record { number = n; place = k })
+
+-- "in order of checking"
+unfoldable pub _orElse_ : Option Refusal → Option Refusal → Option Refusal
+none orElse b = b
+(some r) orElse b = some r
+
+infixr 20 _orElse_
 -- "4: hops not 1 to 12"
 unfoldable pub hopsBad : List ℕ → Bool
 hopsBad r = outside 1 12 (hopsOf r)
@@ -101,7 +117,9 @@ tooLong t = ltb 16128 (length t)
 unfoldable pub ragged : List ℕ → Bool
 ragged t = outside 0 0 (length t % 16)
 
+unfoldable pub badRecord : List ℕ → Option Refusal
+badRecord t = elim (firstBad t) [ none ↦ none | some i ↦ some (record { number = fault t i; place = i }) ]
+
 -- The table's refusal, or none where the table is accepted.
 unfoldable pub refusal : List ℕ → Option Refusal
-refusal t =
-    elim (tooLong t) [ true ↦ some (record { number = 2; place = 0 }) | false ↦ elim (ragged t) [ true ↦ some (record { number = 3; place = 0 }) | false ↦ elim (firstBad t) [ none ↦ none | some i ↦ some (record { number = fault t i; place = i }) ] ] ]
+refusal t = refusedIf (tooLong t) 2 orElse refusedIf (ragged t) 3 orElse badRecord t

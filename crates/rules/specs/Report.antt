@@ -26,7 +26,14 @@ rowBytes mark rank p = mark ∷ rank ∷ pred (length p) ∷ padded 13 255 p
 module _ (paths : ℕ → List Path) (isPresent : ℕ → Bool) where
   -- "byte 0: stage; 254 absent; 255 stuck", for the last settled set
   unfoldable pub row : Settled → ℕ → List ℕ
-  row S v = elim (isPresent v) [ false ↦ rowBytes 254 0 [] | true ↦ elim (S v) [ none ↦ rowBytes 255 (rankIn paths v (best paths S v)) (best paths S v) | some p ↦ rowBytes (stageOf paths isPresent v) (rankIn paths v p) p ] ]
+  row S v =
+      elim (isPresent v) [
+        | false ↦ rowBytes 254 0 []
+        | true ↦ elim (S v) [
+          | none ↦ rowBytes 255 (rankIn paths v (best paths S v)) (best paths S v)
+          | some p ↦ rowBytes (stageOf paths isPresent v) (rankIn paths v p) p
+        ]
+      ]
 
 -- The check's numbers and the two buffers.
 pub record Report : Type 0 where
@@ -44,6 +51,14 @@ report t =
     let paths = pathsOf t in
     let s = stageCount paths (present t) in
     let S = settled paths (present t) s in
-    let stuck = stuckIn paths (present t) S in
+    let stuck = stuckIn (present t) S in
     let ring = ringFrom stuck (follows paths S) in
-    record { ringLength = length ring; settledCount = countBelow (λ v. not (eqb v 0) && isSettled (S v)) 64; stuckCount = countBelow stuck 64; stages = s; hops = longest t; rows = blocks (row paths (present t) S) 64; ring = padded 64 255 ring }
+    record {
+      ringLength = length ring;
+      settledCount = countBelow (λ v. not (eqb v 0) && isSettled (S v)) 64;
+      stuckCount = countBelow stuck 64;
+      stages = s;
+      hops = longest t;
+      rows = blocks (row paths (present t) S) 64;
+      ring = padded 64 255 ring;
+    }

@@ -34,7 +34,7 @@ pub record Ring (waits : ℕ → Bool) (next : ℕ → ℕ) (ring : List ℕ) : 
 
 -- who is judged to wait has a path whose next hop is not settled
 pub judged-waits : (paths : ℕ → List Path) (S : Settled) (p : Path)
-    → judged paths S p ≡ none
+    → judged S p ≡ none
     → (p ≢ []) × (isSettled (S (nextHop p)) ≡ false)
 unfolding judged
 judged-waits paths S [] e = absurd (none≢some e refl)
@@ -50,7 +50,7 @@ module _ (paths : ℕ → List Path) (present : ℕ → Bool) where
   final = settled paths present (stageCount paths present)
 
   abbrev pub isStuck : ℕ → Bool
-  isStuck = stuckIn paths present final
+  isStuck = stuckIn present final
 
   abbrev pub onward : ℕ → ℕ
   onward = follows paths final
@@ -68,7 +68,7 @@ module _ (paths : ℕ → List Path) (present : ℕ → Bool) where
       pub stuck-range : v < 64
       stuck-range = shaped .range v stuck-present
 
-      stuck-judged : judged paths final (best paths final v) ≡ none
+      stuck-judged : judged final (best paths final v) ≡ none
       stuck-judged =
           sym (stage-judges paths present final v stuck-unsettled stuck-present)
           ∙ quiet-stage paths present (stageCount paths present) v (stages-quiet paths present) stuck-range ∙ stuck-unsettled

@@ -53,7 +53,8 @@ pub record Tally : Type 0 where
 
 -- nothing yet, from a heard state
 unfoldable pub begun : List ℕ → Tally
-begun heard = record { heard = heard; steps = 0; ups = 0; downs = 0; lastChange = 0; rounds = 0; since = []; sums = replicate 64 (pos 0) }
+begun heard =
+    record { heard = heard; steps = 0; ups = 0; downs = 0; lastChange = 0; rounds = 0; since = []; sums = replicate 64 (pos 0) }
 
 module _ (paths : ℕ → List Path) where
   -- one step more, with all listening pairs at hand
@@ -63,8 +64,18 @@ module _ (paths : ℕ → List Path) where
       let after = step paths (y .heard) p in
       let moved = movement paths (y .heard) p in
       let seen = offsetOf p ∷ y .since in
-      record { heard = after; steps = suc (y .steps); ups = more (isUp moved) (y .ups); downs = more (isDown moved) (y .downs); lastChange = elim (same (choice paths (y .heard) v) (choice paths after v)) [ true ↦ y .lastChange | false ↦ suc (y .steps) ]; rounds = more (closes pairs seen) (y .rounds); since = elim (closes pairs seen) [ true ↦ [] | false ↦ seen ]; sums = set (y .sums) v (getD (y .sums) v (pos 0) +ℤ moved) }
+      record {
+        heard = after;
+        steps = suc (y .steps);
+        ups = more (isUp moved) (y .ups);
+        downs = more (isDown moved) (y .downs);
+        lastChange = elim (same (choice paths (y .heard) v) (choice paths after v)) [ true ↦ y .lastChange | false ↦ suc (y .steps) ];
+        rounds = more (closes pairs seen) (y .rounds);
+        since = elim (closes pairs seen) [ true ↦ [] | false ↦ seen ];
+        sums = set (y .sums) v (getD (y .sums) v (pos 0) +ℤ moved);
+      }
 
-  -- "The run answers the number of steps, of ups, of downs, the number of the last step that changed a choice, and the rounds", and the sums
+  -- "The run answers the number of steps, of ups, of downs, the number of the last step that changed a choice .., and the rounds",
+  -- and each vertex's sum of movements
   unfoldable pub run : List ℕ → List Pair → Tally
   run heard schedule = let pairs = listeningOffsets paths in foldLeft (activated pairs) (begun heard) schedule

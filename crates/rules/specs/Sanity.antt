@@ -16,7 +16,8 @@ use Rattle.rules.specs.Report.{report, placeIn, rankIn}
 use Rattle.rules.specs.Machine.{Pair, heardFault, step, standing}
 use Rattle.rules.specs.Run.{run}
 use Rattle.rules.specs.Answers.{firstBadPair}
-use Rattle.rules.specs.Accepted.{Layout, layout, OneBlock, no-second-block, no-path-twice, ranks-count, path-length, path-in-block, paths-length, here, shaped}
+use Rattle.rules.specs.Blocks.{OneBlock, no-second-block, no-path-twice, ranks-count, path-in-block, paths-length, here}
+use Rattle.rules.specs.ShapeLaws.{Layout, layout, path-length, shaped}
 use Rattle.rules.specs.PathLaws.{place-distinct}
 use Rattle.rules.specs.GreedyLaws.{stages-most, settled-end}
 use Rattle.rules.specs.RingLaws.{Ring, isStuck, onward, stuck-next, ring-holds}

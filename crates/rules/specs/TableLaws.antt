@@ -17,7 +17,7 @@ use Rattle.lists.specs.SearchLaws.{first-hit, first-miss, first-end, all-fail, 
 use Rattle.lists.specs.ListLaws.{differ}
 use Rattle.lists.specs.Parts.{part-clipped}
 use Rattle.rules.specs.Table.{Path, records, recordAt, hopsOf, pathOf, ownerOf, rankAt, hopsAt, pathAt, ownerAt}
-use Rattle.rules.specs.Refusals.{Refusal, Rule, unusedOf, rule, inRecord, recordRules, firstBroken, fault, faulty, firstBad, tooLong, ragged, refusal, hopsBad, vertexBad, fillerBad, twiceBad, lastBad, ownerBad, rankDue, rankBad, pathBad}
+use Rattle.rules.specs.Refusals.{Refusal, refusedIf, _orElse_, badRecord, Rule, unusedOf, rule, inRecord, recordRules, firstBroken, fault, faulty, firstBad, tooLong, ragged, refusal, hopsBad, vertexBad, fillerBad, twiceBad, lastBad, ownerBad, rankDue, rankBad, pathBad}
 
 -- the rules in order
 
@@ -321,21 +321,23 @@ module _ (t : List ℕ) where
   at n k = some (record { number = n; place = k })
 
   pub refused-long : 16128 < length t → refusal t ≡ at 2 0
-  unfolding refusal tooLong
-  refused-long h = rw (lt-ltb 16128 (length t) h, refusal)
+  unfolding refusal tooLong refusedIf _orElse_
+  refused-long h = rw (lt-ltb 16128 (length t) h)
 
   module _ (short : length t ≤ 16128) where
     pub refused-ragged : (length t % 16 ≡ 0 → ⊥) → refusal t ≡ at 3 0
-    unfolding refusal tooLong ragged
-    refused-ragged h = rw (le-ltb 16128 (length t) short, above-out 0 0 (length t % 16) (omega (arith, h)), refusal)
+    unfolding refusal tooLong ragged refusedIf _orElse_
+    refused-ragged h = rw (le-ltb 16128 (length t) short, above-out 0 0 (length t % 16) (omega (arith, h)))
 
     module _ (whole : length t % 16 ≡ 0) where
-      judged-records : refusal t ≡ elim (firstBad t) [ none ↦ none | some i ↦ at (fault t i) i ]
-      unfolding refusal tooLong ragged
-      judged-records = rw (le-ltb 16128 (length t) short, is-inside 0 0 (length t % 16) (omega arith) (omega arith), refusal)
+      by-record : refusal t ≡ badRecord t
+      unfolding refusal tooLong ragged refusedIf _orElse_
+      by-record = rw (le-ltb 16128 (length t) short, is-inside 0 0 (length t % 16) (omega arith) (omega arith))
 
       pub refused-record : (i : ℕ) → firstBad t ≡ some i → refusal t ≡ at (fault t i) i
-      refused-record i e = judged-records ∙ rw e
+      unfolding badRecord
+      refused-record i e = by-record ∙ rw (e, badRecord)
 
       pub not-refused : firstBad t ≡ none → refusal t ≡ none
-      not-refused e = judged-records ∙ rw e
+      unfolding badRecord
+      not-refused e = by-record ∙ rw (e, badRecord)
