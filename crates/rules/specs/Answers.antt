@@ -4,7 +4,7 @@ use Prim.Native.Nat.{ℕ, zero, suc, _%_}
 use mathlib.Core.Bool.{Bool, true, false, not, _||_}
 use mathlib.Core.List.{List, [], _∷_}
 use mathlib.Core.Option.{Option, none, some}
-use lib.ListN.{length}
+use lib.ListN.{length, replicate}
 use lib.IntN.{ℤ, pos}
 use lib.Dec.{ltb}
 use Rattle.lists.specs.Search.{firstIn, outside}
@@ -69,6 +69,12 @@ verdict (some r) v = refused (r .number) (r .place)
 unfoldable pub checkVerdict : List ℕ → List ℕ → List ℕ → Verdict
 checkVerdict t rows ring = verdict (checkRefusal t rows ring) (verdictOf (report t .ringLength))
 
+-- "The counts are settled and stuck vertices (without vertex 0), s and L, all 0 when refused", after the ring's length
+unfoldable pub checkNumbers : List ℕ → List ℕ → List ℕ → List ℕ
+checkNumbers t rows ring =
+    let r = report t in
+    unless (checkRefusal t rows ring) (r .ringLength ∷ r .settledCount ∷ r .stuckCount ∷ r .stages ∷ r .hops ∷ []) (replicate 5 0)
+
 unfoldable pub rowsAfter : List ℕ → List ℕ → List ℕ → List ℕ
 rowsAfter t rows ring = unless (checkRefusal t rows ring) (report t .rows) rows
 
@@ -82,7 +88,12 @@ stepMovement t heard p = unless (stepRefusal t heard p) (movement (pathsOf t) he
 unfoldable pub heardAfterStep : List ℕ → List ℕ → Pair → List ℕ
 heardAfterStep t heard p = unless (stepRefusal t heard p) (step (pathsOf t) heard p) heard
 
--- the run's tally where it is not refused, and the lent buffers afterwards
+-- the run's numbers: steps, ups, downs, last change and rounds, 0 where refused, and the lent buffers afterwards
+unfoldable pub runNumbers : List ℕ → List ℕ → List ℕ → List ℤ → List ℕ
+runNumbers t heard s sums =
+    let y = run (pathsOf t) heard (pairsIn s) in
+    unless (runRefusal t heard s sums) (y .steps ∷ y .ups ∷ y .downs ∷ y .lastChange ∷ y .rounds ∷ []) (replicate 5 0)
+
 unfoldable pub heardAfterRun : List ℕ → List ℕ → List ℕ → List ℤ → List ℕ
 heardAfterRun t heard s sums = unless (runRefusal t heard s sums) (run (pathsOf t) heard (pairsIn s) .heard) heard
 

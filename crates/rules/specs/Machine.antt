@@ -7,7 +7,7 @@ use lib.ListN.{length, getD, set}
 use lib.Dec.{eqb, ltb}
 use lib.IntN.{ℤ, pos, _-ℤ_}
 use Rattle.lists.specs.Search.{firstIn}
-use Rattle.rules.specs.Table.{Path, listens}
+use Rattle.rules.specs.Table.{Path, listensAt}
 use Rattle.rules.specs.Stable.{bestGiven}
 use Rattle.rules.specs.Report.{placeIn, rankIn}
 
@@ -40,7 +40,7 @@ module _ (paths : ℕ → List Path) where
   -- "It is valid if every byte not at a listening pair is 0, and every other is at most the number of u's records (at most 1 for
   -- u = 0)."
   unfoldable pub badByte : ℕ → ℕ → Bool
-  badByte k b = elim (eqb b 0) [ true ↦ false | false ↦ not (listens paths (k / 64) (k % 64)) || ltb (length (speaks (k % 64))) b ]
+  badByte k b = elim (eqb b 0) [ true ↦ false | false ↦ not (listensAt paths k) || ltb (length (speaks (k % 64))) b ]
 
   -- the lowest bad offset
   unfoldable pub heardFault : List ℕ → Option ℕ

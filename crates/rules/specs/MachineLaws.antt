@@ -15,7 +15,7 @@ use Rattle.lists.specs.Search.{same}
 use Rattle.lists.specs.Tests.{by-test, by-equal, by-less, or-none}
 use Rattle.lists.specs.NumberLaws.{difference-most, told-apart, told-first, told-second}
 use Rattle.lists.specs.ListLaws.{first-in-none, all-fail-in, some-at, twice-apart}
-use Rattle.rules.specs.Table.{Path, nextHop, rest, listens}
+use Rattle.rules.specs.Table.{Path, nextHop, rest, listens, listensAt}
 use Rattle.rules.specs.Stable.{extends, bestGiven}
 use Rattle.rules.specs.Report.{rankIn}
 use Rattle.rules.specs.Machine.{Pair, offsetOf, speaks, byteFor, pathFor, badByte, heardFault, lastHeard, choice, step, standingOf, standing, movement}
@@ -140,7 +140,7 @@ module _ (paths : ℕ → List Path) where
       → listens paths (k / 64) (k % 64) ≡ true
       → b ≤ length (speaks paths (k % 64))
       → badByte paths k b ≡ false
-  unfolding badByte
+  unfolding badByte listensAt
   byte-good k b l h =
       by-test (eqb b 0) (λ q. rw (q, badByte)) (λ q. rw (q, badByte, l) (le-ltb (length (speaks paths (k % 64))) b h))
 
@@ -149,7 +149,7 @@ module _ (paths : ℕ → List Path) where
       → badByte paths k b ≡ false
       → b ≢ 0
       → (listens paths (k / 64) (k % 64) ≡ true) × (b ≤ length (speaks paths (k % 64)))
-  unfolding badByte
+  unfolding badByte listensAt
   byte-fits k b e h =
       let heard = listens paths (k / 64) (k % 64) in
       let most = length (speaks paths (k % 64)) in

@@ -117,6 +117,7 @@ tooLong t = ltb 16128 (length t)
 unfoldable pub ragged : List ℕ → Bool
 ragged t = outside 0 0 (length t % 16)
 
+-- its refusal
 unfoldable pub badRecord : List ℕ → Option Refusal
 badRecord t = elim (firstBad t) [ none ↦ none | some i ↦ some (record { number = fault t i; place = i }) ]
 

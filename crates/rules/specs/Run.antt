@@ -36,9 +36,11 @@ module _ (paths : ℕ → List Path) where
   unfoldable pub listeningOffsets : List ℕ
   listeningOffsets = blocks (λ v. map (λ u. 64 * v + u) (thoseBelow (listens paths v) 64)) 64
 
--- "a round closes as soon as every listening pair has been activated since the last closing"
+-- "a round closes as soon as every listening pair has been activated since the last closing. With no listening pair there are 0
+-- rounds."
 unfoldable pub closes : List ℕ → List ℕ → Bool
-closes pairs since = not (anyIn (λ k. not (elem k since)) pairs)
+closes [] since = false
+closes (k ∷ ks) since = not (anyIn (λ j. not (elem j since)) (k ∷ ks))
 
 -- What a run has come to.
 pub record Tally : Type 0 where
