@@ -1,4 +1,5 @@
--- The rules page, "Tables tried by hand": the nine starred cases and two tables with a router in two blocks, as one list and one statement about the definitions.
+-- The rules page, "Tables tried by hand": the nine starred cases, a run that repeats a pair, and two tables with a router in two
+-- blocks, as one list and one statement about the definitions.
 use Prim.Native.Nat.{ℕ, suc, pred, _*_}
 use mathlib.Core.Path.{_≡_, refl}
 use mathlib.Core.Bool.{true, false, not, _&&_}
@@ -154,6 +155,14 @@ withdrawn =
       expected = ran (pos 15 ∷ pos 16 ∷ pos 16 ∷ pos 1 ∷ negsuc 15 ∷ []) 4 1 5 1 (pos 16 ∷ pos 16 ∷ pos 0 ∷ []);
     }
 
+-- Table 2 from zeros, its one pair twice: the second step changes nothing, and each step closes a round.
+unfoldable pub heardAgain : Example
+heardAgain =
+    record {
+      input = runs (((1 ∷ 0 ∷ []) ∷ []) ∷ []) (1 ∷ 0 ∷ 1 ∷ 0 ∷ []);
+      expected = ran (pos 16 ∷ pos 0 ∷ []) 1 0 1 2 (pos 16 ∷ pos 0 ∷ pos 0 ∷ []);
+    }
+
 -- A router in two blocks, apart: owners 1, 2, 1.
 unfoldable pub blocksApart : Example
 blocksApart =
@@ -171,7 +180,7 @@ blocksAdjacent =
     }
 
 unfoldable pub examples : List Example
-examples = empty ∷ direct ∷ disagree ∷ threeRing ∷ shortcut ∷ silent ∷ chain ∷ firstMoves ∷ withdrawn ∷ blocksApart ∷ blocksAdjacent ∷ []
+examples = empty ∷ direct ∷ disagree ∷ threeRing ∷ shortcut ∷ silent ∷ chain ∷ firstMoves ∷ withdrawn ∷ heardAgain ∷ blocksApart ∷ blocksAdjacent ∷ []
 
 pub worked : map (λ e. outcome (e .input)) examples ≡ map (λ e. e .expected) examples
 unfolding refusedIf refusedAt _orElse_ otherLength scheduleBad firstBadPair runRefusal outside firstFrom anyBelow
@@ -183,5 +192,5 @@ unfolding refusedIf refusedAt _orElse_ otherLength scheduleBad firstBadPair runR
     extends bestGiven placeIn rankIn rowBytes row report offsetOf speaks byteFor pathFor badByte heardFault lastHeard
     choice step standingOf standing movement pairsIn isUp isDown more listeningOffsets closes begun activated run
     recordBytes blockBytes tableBytes vertices lineOf checkedOf movements ranOf outcome table3 table7 empty direct
-    disagree threeRing shortcut silent chain firstMoves withdrawn blocksApart blocksAdjacent examples
+    disagree threeRing shortcut silent chain firstMoves withdrawn heardAgain blocksApart blocksAdjacent examples
 worked = refl
