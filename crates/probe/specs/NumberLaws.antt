@@ -1,4 +1,4 @@
--- The numbers from the reader's answers, and that a refusal's place is below 1,008, so that its code fits.
+-- The numbers from the reader's answers: a refusal's code fits, and tells that there is a refusal.
 use mathlib.Core.Path.{_≡_, refl, sym, ap, _∙_}
 use mathlib.Core.Bool.{Bool, true, false, cond}
 use mathlib.Core.List.{List, [], _∷_}
@@ -7,16 +7,13 @@ use Prim.Native.Nat.{ℕ, zero, suc, _+_, _*_, _%_, _<_, _≤_}
 use native.Mathlib.Omega.{arith}
 use native.Mathlib.Nat.{not-suc-le-zero}
 use lib.ListN.{length, getD, List·getD-eq-default}
-use lib.Dec.{ltb, eqb}
 use mir.Val.{boolByte}
-use borrow.Author.Tests.{ltb-true, ltb-false, eqb-true, eqb-false, lt-ltb, le-ltb}
+use borrow.Author.Tests.{lt-ltb, le-ltb}
 use Rattle.lists.specs.Fill.{tabulate}
 use Rattle.lists.specs.FillLaws.{tabulate-length, tabulate-at, padded-length}
-use Rattle.lists.specs.Tests.{by-test}
-use Rattle.lists.specs.SearchLaws.{first-found}
 use Rattle.rules.specs.Table.{records, slotsOf}
-use Rattle.rules.specs.Refusals.{Refusal, refusal, faulty, firstBad}
-use Rattle.rules.specs.TableLaws.{refused-long, refused-ragged, refused-record, not-refused}
+use Rattle.rules.specs.Refusals.{Refusal, refusal}
+use Rattle.rules.specs.Accepted.{told}
 use Rattle.reader.specs.Reading.{readingOf}
 use Rattle.reader.specs.declared.Reading.the-variants.{Accepted, Refused}
 use Rattle.probe.specs.Numbers.{codeOf, markOf, slotsIn, slotAt}
@@ -26,23 +23,6 @@ getD-within : (l : List ℕ) (i d e : ℕ) → i < length l → getD l i d ≡ g
 getD-within [] i d e h = absurd (not-suc-le-zero h)
 getD-within (x ∷ xs) zero d e h = refl
 getD-within (x ∷ xs) (suc i) d e h = getD-within xs i d e (omega arith)
-
--- the place of a refusal, 0 where there is none
-unfoldable pub placeOf : Option Refusal → ℕ
-placeOf none = 0
-placeOf (some r) = r .place
-
-place-small : (t : List ℕ) → placeOf (refusal t) < 1008
-unfolding placeOf records firstBad
-place-small t =
-    by-test (ltb 16128 (length t)) (λ q. rw (refused-long t (ltb-true 16128 (length t) q)) (omega arith))
-    (λ q. let short = ltb-false 16128 (length t) q in by-test (eqb (length t % 16) 0) (λ w. of-record short (eqb-true (length t % 16) 0 w) (firstBad t) refl)
-    (λ w. rw (refused-ragged t short (eqb-false (length t % 16) 0 w)) (omega arith)))
-  where
-    of-record : length t ≤ 16128 → length t % 16 ≡ 0 → (found : Option ℕ) → firstBad t ≡ found → placeOf (refusal t) < 1008
-    of-record short whole none e = rw (not-refused t short whole e) (omega arith)
-    of-record short whole (some i) e =
-        rw (refused-record t short whole i e) (omega (arith, first-found (faulty t) 0 (records t) i e .under))
 
 -- what the reader's answer says of the code
 pub accepted-code : (o : Option Refusal) → Accepted ≡ readingOf o → 0 ≡ codeOf o
@@ -56,13 +36,25 @@ module _ (n k : ℕ) where
   refused-code none e = absurd (let z : _≡_ {A = ℕ} 0 1 = cc in omega arith)
   refused-code (some r) e = cc
 
-  refused-place : (o : Option Refusal) → Refused n k ≡ readingOf o → k ≡ placeOf o
-  unfolding readingOf placeOf
-  refused-place none e = absurd (let z : _≡_ {A = ℕ} 0 1 = cc in omega arith)
-  refused-place (some r) e = cc
+  refused-place : (t : List ℕ) (o : Option Refusal) → refusal t ≡ o → Refused n k ≡ readingOf o → k < 1008
+  unfolding readingOf
+  refused-place t none q e = absurd (let z : _≡_ {A = ℕ} 0 1 = cc in omega arith)
+  refused-place t (some r) q e = let p : k ≡ r .place = cc in omega (arith, told t r q .place)
 
   pub refused-small : (t : List ℕ) → Refused n k ≡ readingOf (refusal t) → k < 1008
-  refused-small t e = rw (refused-place (refusal t) e) (place-small t)
+  refused-small t e = refused-place t (refusal t) refl e
+
+code-of : (r : Refusal) → codeOf (some r) ≡ r .number + 256 * r .place
+unfolding codeOf
+code-of r = refl
+
+-- the code is 0 only where the table is accepted
+pub code-tells : (t : List ℕ) → codeOf (refusal t) ≡ 0 → refusal t ≡ none
+code-tells t e = go (refusal t) refl
+  where
+    go : (o : Option Refusal) → refusal t ≡ o → refusal t ≡ none
+    go none q = q
+    go (some r) q = absurd (let z : r .number + 256 * r .place ≡ 0 = sym (code-of r) ∙ ap codeOf (sym q) ∙ e in omega (arith, told t r q .least))
 
 -- a mark read from the marks of the numbers below n, and past their end
 module _ (test : ℕ → Bool) (n i : ℕ) where

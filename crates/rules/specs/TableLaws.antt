@@ -77,6 +77,27 @@ module _ (t : List ℕ) (i : ℕ) where
       let k = rule-passed _ _ (omega arith) (h .1) in
       record { hops = a .0; vertices = b .0; filler = c .0; once = d .0; last = f .0; owner = g .0; rank = h .0; path = k .0 }
 
+-- the numbers are those of the page
+abbrev Between : List Rule → Type 0
+Between [] = Unit {0}
+Between (r ∷ rs) = (4 ≤ r .number) × (r .number ≤ 11) × Between rs
+
+module _ (t : List ℕ) (i : ℕ) where
+  broken-range : (rs : List Rule) → Between rs → (firstBroken rs t i ≡ 0 → ⊥) → (4 ≤ firstBroken rs t i) × (firstBroken rs t i ≤ 11)
+  unfolding firstBroken
+  broken-range [] b f = absurd (f refl)
+  broken-range (r ∷ rs) b f =
+      by-test (r .broken t i) (λ q. rw (rule-broken t i r rs q) (b .0, b .1))
+      (λ q. rw (rule-kept t i r rs q) (broken-range rs (b .2) (λ z. f (rule-kept t i r rs q ∙ z))))
+
+  between : Between recordRules
+  unfolding recordRules rule
+  between = omega arith
+
+  pub fault-range : (fault t i ≡ 0 → ⊥) → (4 ≤ fault t i) × (fault t i ≤ 11)
+  unfolding fault
+  fault-range f = broken-range recordRules between f
+
 pub hops-small : (t : List ℕ) (i : ℕ) (b : Bool) → b ≡ hopsBad (recordAt t i) → b ≡ false → hopsAt t i ≤ 12
 unfolding hopsBad
 hops-small t i b e q = inside 1 12 (hopsAt t i) (sym e ∙ q) .1
@@ -316,10 +337,10 @@ unfolding firstBad
 all-to-find t = let e : records t - 0 ≡ records t = omega arith in rw e
 
 -- the table's refusal, case by case
-module _ (t : List ℕ) where
-  abbrev pub at : ℕ → ℕ → Option Refusal
-  at n k = some (record { number = n; place = k })
+abbrev pub at : ℕ → ℕ → Option Refusal
+at n k = some (record { number = n; place = k })
 
+module _ (t : List ℕ) where
   pub refused-long : 16128 < length t → refusal t ≡ at 2 0
   unfolding refusal tooLong refusedIf _orElse_
   refused-long h = rw (lt-ltb 16128 (length t) h)
