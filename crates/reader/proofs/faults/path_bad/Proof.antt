@@ -31,7 +31,7 @@ cast-j : tie.Need-cast-j Inv-loop μ-loop
 cast-j c = omega arith
 
 sub-j : tie.Need-sub-j Inv-loop μ-loop
-sub-j c = block-fits _ _ (c .before .before .before .pre .1) _ (c .rank-at .ensures) .1
+sub-j c = omega (arith, block-fits _ _ (c .before .before .before .pre .1) _ (c .rank-at .ensures) .1)
 
 loop-holds : tie.Need-loop-holds Inv-loop μ-loop
 loop-holds c =
