@@ -3,7 +3,7 @@ use mathlib.Core.Path.{_≡_, refl, sym, ap, _∙_}
 use mathlib.Core.Bool.{Bool, true, false, cond}
 use mathlib.Core.List.{List, [], _∷_}
 use mathlib.Core.Option.{Option, none, some}
-use Prim.Native.Nat.{ℕ, zero, suc, _+_, _*_, _%_, _<_, _≤_}
+use Prim.Native.Nat.{ℕ, zero, suc, _+_, _*_, _<_, _≤_}
 use native.Mathlib.Omega.{arith}
 use native.Mathlib.Nat.{not-suc-le-zero}
 use lib.ListN.{length, getD, List·getD-eq-default}
@@ -11,7 +11,7 @@ use mir.Val.{boolByte}
 use borrow.Author.Tests.{lt-ltb, le-ltb}
 use Rattle.lists.specs.Fill.{tabulate}
 use Rattle.lists.specs.FillLaws.{tabulate-length, tabulate-at, padded-length}
-use Rattle.rules.specs.Table.{records, slotsOf}
+use Rattle.rules.specs.Table.{slotsOf}
 use Rattle.rules.specs.Refusals.{Refusal, refusal}
 use Rattle.rules.specs.Accepted.{told}
 use Rattle.reader.specs.Reading.{readingOf}

@@ -1,12 +1,11 @@
 -- One result: any two answers that the contract allows for one table are equal, and an answer tells the refusal.
-use mathlib.Core.Path.{_≡_, refl, sym, ap, _∙_}
+use mathlib.Core.Path.{_≡_, refl, sym, _∙_}
 use mathlib.Core.List.{List}
 use mathlib.Core.Option.{Option, none, some}
 use Prim.Native.Nat.{ℕ}
 use native.Mathlib.Omega.{arith}
 use Rattle.rules.specs.Refusals.{Refusal, refusal}
 use Rattle.reader.specs.declared.Reading.{Reading}
-use Rattle.reader.specs.declared.Reading.the-variants.{Accepted, Refused}
 use Rattle.reader.specs.Reading.{readingOf}
 
 pub one-reading : (t : List ℕ) (a b : Reading) → a ≡ readingOf (refusal t) → b ≡ readingOf (refusal t) → a ≡ b

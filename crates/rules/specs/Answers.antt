@@ -1,7 +1,7 @@
 -- The rules page, "Refusal numbers, in order of checking", for each entry, and what each entry gives back and leaves in the lent
 -- buffers, for all inputs.
 use Prim.Native.Nat.{ℕ, zero, suc, _%_}
-use mathlib.Core.Bool.{Bool, true, false, not, _||_}
+use mathlib.Core.Bool.{Bool, not, _||_}
 use mathlib.Core.List.{List, [], _∷_}
 use mathlib.Core.Option.{Option, none, some}
 use lib.ListN.{length, replicate}

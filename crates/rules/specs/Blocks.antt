@@ -7,7 +7,7 @@ use native.Mathlib.Omega.{arith}
 use lib.ListN.{length, getD, length-map}
 use lib.Dec.{eqb, ltb}
 use borrow.Author.Tests.{eqb-true, eqb-false, eq-eqb, ltb-true, ltb-false}
-use Rattle.lists.specs.Search.{same, twice}
+use Rattle.lists.specs.Search.{same}
 use Rattle.lists.specs.Fill.{tabulate}
 use Rattle.lists.specs.Tests.{by-test, inside}
 use Rattle.lists.specs.SearchLaws.{none-below}
@@ -52,6 +52,12 @@ module _ (t : List ℕ) (e : refusal t ≡ none) where
         starts-earlier : (m : ℕ) → suc i ≤ m + rankAt t i → m ≤ i → m + rankAt t j ≤ j → ⊥
         starts-earlier m lo hi before = let b = second-of .before m before in let c = first-of .inside m lo hi in omega arith
 
+-- no path comes twice in an accepted table
+pub no-path-twice : (t : List ℕ) → refusal t ≡ none → (i j : ℕ) → i < j → j < records t → pathAt t i ≡ pathAt t j → ⊥
+unfolding pathBad
+no-path-twice t e i j l h q =
+    differs (pathAt t i) (pathAt t j) (none-below (λ k. same (pathAt t k) (pathAt t j)) j (accepted t e .kept j h .path) i l) q
+
 -- the records of one owner: one block, ranks 1 to its size, each once, and no path twice
 pub record OneBlock (t : List ℕ) (v n : ℕ) : Type 0 where
   pub start : ℕ
@@ -61,6 +67,7 @@ pub record OneBlock (t : List ℕ) (v n : ℕ) : Type 0 where
   pub mine : (i : ℕ) → start ≤ i → i < start + size → ownerAt t i ≡ v
   pub others : (i : ℕ) → i < n → ownerAt t i ≡ v → (start ≤ i) × (i < start + size)
   pub ranks : (k : ℕ) → k < size → rankAt t (start + k) ≡ suc k
+  pub once : (i j : ℕ) → start ≤ i → i < j → j < start + size → pathAt t i ≡ pathAt t j → ⊥
 
 module _ (t : List ℕ) (e : refusal t ≡ none) (v : ℕ) where
   one-block : (n : ℕ) → n ≤ records t → OneBlock t v n
@@ -73,6 +80,7 @@ module _ (t : List ℕ) (e : refusal t ≡ none) (v : ℕ) where
         mine = λ i lo hi. absurd (omega arith);
         others = λ i l o. absurd (omega arith);
         ranks = λ k l. absurd (omega arith);
+        once = λ i j lo l hi. absurd (omega arith);
       }
   one-block (suc n) h =
       by-test (eqb (ownerAt t n) v) (λ q. ends-here n h (eqb-true (ownerAt t n) v q))
@@ -85,6 +93,7 @@ module _ (t : List ℕ) (e : refusal t ≡ none) (v : ℕ) where
         mine = r .mine;
         others = λ i l o. by-test (eqb i n) (λ p. absurd (eqb-false (ownerAt t n) v q (ap (ownerAt t) (sym (eqb-true i n p)) ∙ o))) (λ p. r .others i (omega (arith, eqb-false i n p)) o);
         ranks = r .ranks;
+        once = r .once;
       })
     where
       ends-here : (n : ℕ) → suc n ≤ records t → ownerAt t n ≡ v → OneBlock t v (suc n)
@@ -98,17 +107,13 @@ module _ (t : List ℕ) (e : refusal t ≡ none) (v : ℕ) where
             mine = λ i lo hi. b .inside i (omega arith) (omega (arith, b .fits)) ∙ o;
             others = λ i l p. (omega (arith, in-block t e i n (omega arith) h (p ∙ sym o)), omega (arith, b .fits));
             ranks = λ k l. omega (arith, b .fits, ranks-rise t e (suc n - rankAt t n + k) n (omega (arith, b .fits)) h (b .inside (suc n - rankAt t n + k) (omega (arith, b .fits)) (omega (arith, b .fits))));
+            once = λ i j lo l hi. no-path-twice t e i j l (omega (arith, b .fits));
           }
 
-  -- No second block: in an accepted table all records of one owner stand together in one block, with ranks 1 to n, each once, ..
+  -- No second block: in an accepted table all records of one owner stand together in one block, with ranks 1 to n, each once, and
+  -- no path twice.
   pub no-second-block : OneBlock t v (records t)
   no-second-block = one-block (records t) (omega arith)
-
--- .. and no path twice
-pub no-path-twice : (t : List ℕ) → refusal t ≡ none → (i j : ℕ) → i < j → j < records t → pathAt t i ≡ pathAt t j → ⊥
-unfolding pathBad
-no-path-twice t e i j l h q =
-    differs (pathAt t i) (pathAt t j) (none-below (λ k. same (pathAt t k) (pathAt t j)) j (accepted t e .kept j h .path) i l) q
 
 -- So two blocks under one number are always refused: apart, with another owner's record between them, ..
 pub apart-refused : (t : List ℕ) (i m j : ℕ)

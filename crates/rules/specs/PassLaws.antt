@@ -5,7 +5,7 @@ use mathlib.Core.List.{List, [], _∷_, _++_, map, map-append}
 use Prim.Native.Nat.{ℕ, _+_, _*_, _/_, _%_, _<_, _≤_, min, max}
 use native.Mathlib.Omega.{arith}
 use native.Mathlib.Numerals.{add-one}
-use lib.ListN.{length, getD, set, replicate, length-append, length-replicate, getD-replicate, List·getD-eq-default}
+use lib.ListN.{length, getD, set, replicate, length-append, length-replicate, getD-replicate}
 use lib.Dec.{eqb, ltb}
 use borrow.Author.Tests.{eq-eqb, ne-eqb, lt-ltb, le-ltb}
 use Rattle.lists.specs.Search.{anyBelow, anyIn, elem, maxBelow, thoseBelow}
@@ -205,7 +205,7 @@ pub pairs-all : (t : List ℕ) (n : ℕ) (marks : List Bool)
 unfolding pathsOf
 pairs-all t n marks e f = f ∙ ap (λ (m : ℕ). tabulate (listensAt (pathsBelow t m)) 4096) e
 
--- a pair, and the second vertex of a path
+-- a pair
 
 pub pair-skip : (marks : List Bool) (v u : ℕ) → 64 ≤ u → marks ≡ pairMarked marks v u
 unfolding pairMarked
@@ -214,11 +214,3 @@ pair-skip marks v u h = rw (le-ltb u 64 h, pairMarked)
 pub pair-store : (marks next : List Bool) (v u : ℕ) → u < 64 → next ≡ set marks (v * 64 + u) true → next ≡ pairMarked marks v u
 unfolding pairMarked
 pair-store marks next v u h e = let k : v * 64 + u ≡ 64 * v + u = omega arith in e ∙ rw (lt-ltb u 64 h, pairMarked) (rw k)
-
-pub next-none : (p q : Path) → p ≡ q → length p ≤ 1 → 0 ≡ nextHop q
-unfolding nextHop
-next-none p q e h = sym (ap (λ (r : Path). getD r 1 0) (sym e) ∙ List·getD-eq-default p 0 h)
-
-pub next-there : (p q : Path) → p ≡ q → getD p 1 0 ≡ nextHop q
-unfolding nextHop
-next-there p q e = ap (λ (r : Path). getD r 1 0) e

@@ -16,7 +16,7 @@ use Rattle.rules.specs.Report.{report, placeIn, rankIn}
 use Rattle.rules.specs.Machine.{Pair, heardFault, step, standing}
 use Rattle.rules.specs.Run.{run}
 use Rattle.rules.specs.Answers.{firstBadPair}
-use Rattle.rules.specs.Blocks.{OneBlock, no-second-block, no-path-twice, ranks-count, path-in-block, paths-length, here}
+use Rattle.rules.specs.Blocks.{OneBlock, no-second-block, ranks-count, path-in-block, paths-length, here}
 use Rattle.rules.specs.ShapeLaws.{Layout, layout, path-length, shaped}
 use Rattle.rules.specs.PathLaws.{place-distinct}
 use Rattle.rules.specs.GreedyLaws.{stages-most, settled-end}
@@ -54,11 +54,9 @@ module _ (t : List ℕ) (e : refusal t ≡ none) (i : ℕ) (h : i < records t) w
 pub record Sane (t : List ℕ) : Type 0 where
   -- every record has the shape that the page gives it
   pub shape : (i : ℕ) → i < records t → Layout (recordAt t i)
-  -- all records of one owner stand together in one block, with ranks 1 to n, each once, ..
+  -- all records of one owner stand together in one block, with ranks 1 to n, each once, and no path twice
   pub oneBlock : (v : ℕ) → OneBlock t v (records t)
   pub ranks : (v k : ℕ) → k < length (owned t (records t) v) → rankAt t (getD (owned t (records t) v) k 0) ≡ suc k
-  -- .. and no path twice
-  pub noPathTwice : (i j : ℕ) → i < j → j < records t → pathAt t i ≡ pathAt t j → ⊥
   -- the stage count is at most 63, and nothing changes after it
   pub stages : stageCount (pathsOf t) (present t) ≤ 63
   pub ended : (n v : ℕ)
@@ -93,7 +91,6 @@ sane t e =
       shape = λ i h. layout t e i h;
       oneBlock = no-second-block t e;
       ranks = ranks-count t e;
-      noPathTwice = no-path-twice t e;
       stages = stages-most (pathsOf t) (present t);
       ended = settled-end (pathsOf t) (present t);
       stuckOn = stuck-next (pathsOf t) (present t) s;

@@ -8,16 +8,16 @@ use native.Mathlib.Omega.{arith}
 use native.Mathlib.Nat.{not-suc-le-zero}
 use native.Mathlib.Numerals.{add-one}
 use lib.ListN.{length, getD, take, drop, drop-of-length-le, length-take, length-drop}
-use lib.Seq.{getD-take, getD-drop, take-all, take-nil}
+use lib.Seq.{getD-take, getD-drop, take-nil}
 use lib.Dec.{eqb, ltb}
 use borrow.Author.Tests.{eqb-true, eq-eqb, ne-eqb, ltb-false, lt-ltb, le-ltb, not-false}
 use Rattle.lists.specs.Search.{anyBelow, anyIn, firstFrom, outside, same}
-use Rattle.lists.specs.Tests.{by-test, by-equal, by-less, or-none, or-left, inside, is-inside, above-out, neither}
+use Rattle.lists.specs.Tests.{by-test, by-equal, or-none, or-left, inside, is-inside, above-out, neither}
 use Rattle.lists.specs.SearchLaws.{first-hit, first-miss, first-end, all-fail, any-below, any-below-suc}
 use Rattle.lists.specs.ListLaws.{differ}
 use Rattle.lists.specs.Parts.{part-clipped}
 use Rattle.rules.specs.Table.{Path, records, recordAt, hopsOf, pathOf, ownerOf, rankAt, hopsAt, pathAt, ownerAt}
-use Rattle.rules.specs.Refusals.{Refusal, refusedIf, _orElse_, badRecord, Rule, unusedOf, rule, inRecord, recordRules, firstBroken, fault, faulty, firstBad, tooLong, ragged, refusal, hopsBad, vertexBad, fillerBad, twiceBad, lastBad, ownerBad, rankDue, rankBad, pathBad}
+use Rattle.rules.specs.Refusals.{_orElse_, Refusal, refusedIf, badRecord, Rule, unusedOf, rule, inRecord, recordRules, firstBroken, fault, faulty, firstBad, tooLong, ragged, refusal, hopsBad, vertexBad, fillerBad, twiceBad, lastBad, ownerBad, rankDue, rankBad, pathBad}
 
 -- the rules in order
 
