@@ -1,0 +1,23 @@
+-- What each case of the check's answer says in the numbers and values of the rules page.
+use Prim.Native.Nat.{ℕ}
+use mathlib.Core.List.{List, [], _∷_}
+use Rattle.rules.specs.Answers as rules
+use Rattle.answer.specs.declared.Verdict.{Verdict}
+use Rattle.answer.specs.declared.Verdict.the-variants.{Complete, Stuck, Refused}
+use Rattle.answer.specs.declared.Answer.{Answer}
+
+-- "complete, stuck with the ring's length, or refused with number and place"
+unfoldable pub meaning : Verdict → rules.Verdict
+meaning Complete = rules.complete
+meaning (Stuck n) = rules.stuck n
+meaning (Refused n k) = rules.refused n k
+
+-- "the check's ring length (0 if complete)", and 0 where refused
+unfoldable pub ringLengthIn : Verdict → ℕ
+ringLengthIn Complete = 0
+ringLengthIn (Stuck n) = n
+ringLengthIn (Refused n k) = 0
+
+-- the ring's length, the settled and stuck vertices, s and L
+unfoldable pub numbers : Answer → List ℕ
+numbers a = ringLengthIn (a .verdict) ∷ a .settled ∷ a .stuck ∷ a .stages ∷ a .longest ∷ []

@@ -1,0 +1,33 @@
+-- Laws of what the check's answer says: it says everything, so two answers that say the same are equal.
+use mathlib.Core.Path.{_≡_, refl}
+use Prim.Native.Nat.{ℕ}
+use native.Mathlib.Omega.{arith}
+use Rattle.rules.specs.Answers as rules
+use Rattle.answer.specs.declared.Verdict.{Verdict}
+use Rattle.answer.specs.declared.Verdict.the-variants.{Complete, Stuck, Refused}
+use Rattle.answer.specs.declared.Answer.{Answer}
+use Rattle.answer.specs.Meaning.{meaning, numbers}
+
+-- different verdicts say different things
+pub meaning-tells : (a b : Verdict) → meaning a ≡ meaning b → a ≡ b
+unfolding meaning
+meaning-tells Complete Complete e = refl
+meaning-tells Complete (Stuck n) e = absurd (let z : _≡_ {A = ℕ} 0 1 = cc in omega arith)
+meaning-tells Complete (Refused n k) e = absurd (let z : _≡_ {A = ℕ} 0 1 = cc in omega arith)
+meaning-tells (Stuck n) Complete e = absurd (let z : _≡_ {A = ℕ} 0 1 = cc in omega arith)
+meaning-tells (Stuck n) (Stuck m) e = cc
+meaning-tells (Stuck n) (Refused m k) e = absurd (let z : _≡_ {A = ℕ} 0 1 = cc in omega arith)
+meaning-tells (Refused n k) Complete e = absurd (let z : _≡_ {A = ℕ} 0 1 = cc in omega arith)
+meaning-tells (Refused n k) (Stuck m) e = absurd (let z : _≡_ {A = ℕ} 0 1 = cc in omega arith)
+meaning-tells (Refused n k) (Refused m j) e = cc
+
+-- an answer is told by what its verdict says and by its numbers
+pub answer-tells : (a b : Answer) → meaning (a .verdict) ≡ meaning (b .verdict) → numbers a ≡ numbers b → a ≡ b
+unfolding numbers
+answer-tells a b e f =
+    let v = meaning-tells (a .verdict) (b .verdict) e in
+    let s : a .settled ≡ b .settled = cc in
+    let w : a .stuck ≡ b .stuck = cc in
+    let k : a .stages ≡ b .stages = cc in
+    let l : a .longest ≡ b .longest = cc in
+    λ i. record { verdict = v i; settled = s i; stuck = w i; stages = k i; longest = l i }
