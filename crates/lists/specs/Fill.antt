@@ -2,13 +2,17 @@
 use Prim.Native.Nat.{ℕ, zero, suc}
 use mathlib.Core.Bool.{Bool, true}
 use mathlib.Core.List.{List, [], _∷_, _++_}
-use lib.ListN.{take, replicate, set}
+use lib.ListN.{take, drop, replicate, set}
 
 module _ {A : Type 0} where
   -- f 0, f 1, .. below n
   unfoldable pub tabulate : (ℕ → A) → ℕ → List A
   tabulate f zero = []
   tabulate f (suc n) = tabulate f n ++ f n ∷ []
+
+  -- a list that is made anew from the front, and has come to k: f below k, what stood there from k on
+  unfoldable pub renewed : (ℕ → A) → List A → ℕ → List A
+  renewed f old k = tabulate f k ++ drop k old
 
   -- the lists f 0, f 1, .. below n, end to end
   unfoldable pub blocks : (ℕ → List A) → ℕ → List A

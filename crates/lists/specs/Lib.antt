@@ -10,5 +10,6 @@ pub mod SearchLaws
 pub mod Parts
 pub mod ListLaws
 pub mod FillLaws
+pub mod RenewLaws
 pub mod FoldLaws
 pub mod RangeLaws

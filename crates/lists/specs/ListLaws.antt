@@ -16,6 +16,12 @@ use Rattle.lists.specs.Search.{anyIn, firstIn, elem, same, twice}
 use Rattle.lists.specs.Tests.{true≢, none≢some, by-test, by-equal, or-none, or-cases, or-left, or-right}
 use Rattle.lists.specs.Parts.{part-to-end}
 
+-- within a list it does not matter what stands past its end
+pub getD-within : {A : Type 0} (l : List A) (i : ℕ) (d e : A) → i < length l → getD l i d ≡ getD l i e
+getD-within [] i d e h = absurd (not-suc-le-zero h)
+getD-within (x ∷ xs) zero d e h = refl
+getD-within (x ∷ xs) (suc i) d e h = getD-within xs i d e (omega arith)
+
 -- whether some element passes
 
 module _ {A : Type 0} (test : A → Bool) where

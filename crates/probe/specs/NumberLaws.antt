@@ -10,6 +10,7 @@ use lib.ListN.{length, getD, List·getD-eq-default}
 use mir.Val.{boolByte}
 use borrow.Author.Tests.{lt-ltb, le-ltb}
 use Rattle.lists.specs.Fill.{tabulate}
+use Rattle.lists.specs.ListLaws.{getD-within}
 use Rattle.lists.specs.FillLaws.{tabulate-length, tabulate-at, padded-length}
 use Rattle.rules.specs.Table.{slotsOf}
 use Rattle.rules.specs.Refusals.{Refusal, refusal}
@@ -17,12 +18,6 @@ use Rattle.rules.specs.Accepted.{told}
 use Rattle.reader.specs.Reading.{readingOf}
 use Rattle.reader.specs.declared.Reading.the-variants.{Accepted, Refused}
 use Rattle.probe.specs.Numbers.{codeOf, markOf, slotsIn, slotAt}
-
--- within a list it does not matter what stands past its end
-getD-within : (l : List ℕ) (i d e : ℕ) → i < length l → getD l i d ≡ getD l i e
-getD-within [] i d e h = absurd (not-suc-le-zero h)
-getD-within (x ∷ xs) zero d e h = refl
-getD-within (x ∷ xs) (suc i) d e h = getD-within xs i d e (omega arith)
 
 -- what the reader's answer says of the code
 pub accepted-code : (o : Option Refusal) → Accepted ≡ readingOf o → 0 ≡ codeOf o

@@ -1,0 +1,3 @@
+-- How the check keeps what is settled, and one stage over that.
+pub mod Standing
+pub mod StandingLaws
