@@ -1,3 +1,4 @@
 -- How the check keeps what is settled, and one stage over that.
 pub mod Standing
 pub mod StandingLaws
+pub mod SlotLaws

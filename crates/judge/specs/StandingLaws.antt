@@ -13,6 +13,7 @@ use native.Mathlib.Numerals.{add-one}
 use Rattle.lists.specs.Parts.{part-to-end}
 use lib.Dec.{eqb, ltb}
 use borrow.Author.Tests.{eq-eqb, ne-eqb}
+use Rattle.lists.specs.Tests.{by-test, by-equal, none≢some}
 use Rattle.lists.specs.Search.{same}
 use Rattle.lists.specs.Fill.{tabulate, renewed}
 use Rattle.lists.specs.RenewLaws.{renewed-none, renewed-keep, renewed-store, renewed-all}
@@ -53,6 +54,13 @@ pub holds-record : (t shown : List ℕ) (v : ℕ) → v ≢ 0 → heldPath t sho
 unfolding heldPath
 holds-record t shown v e = rw (ne-eqb v 0 e, heldPath)
 
+-- it depends on the vertex's own record alone
+pub holds-same : (t a b : List ℕ) (v : ℕ) → getD a v 65535 ≡ getD b v 65535 → heldPath t a v ≡ heldPath t b v
+holds-same t a b v e =
+    by-equal v 0
+    (λ q. holds-origin t a v q ∙ sym (holds-origin t b v q))
+    (λ q. holds-record t a v q ∙ ap (pathAt t) e ∙ sym (holds-record t b v q))
+
 -- the walk along a path to its first settled vertex
 module _ (S : Settled) where
   pub compatible-head : (v : ℕ) (p q : Path) → S v ≡ some q → compatible S (v ∷ p) ≡ same (v ∷ p) q
@@ -84,6 +92,13 @@ module _ (t marks shown : List ℕ) (v : ℕ) where
   unfolding settledBy
   out-unsettled e = rw (e, settledBy)
 
+-- who is settled with a path holds it
+pub settled-holds : (t marks shown : List ℕ) (v : ℕ) (p : Path) → settledBy t marks shown v ≡ some p → heldPath t shown v ≡ p
+settled-holds t marks shown v p e =
+    by-test (isIn marks v)
+    (λ q. let z : some (heldPath t shown v) ≡ some p = sym (in-settled t marks shown v q) ∙ e in cc)
+    (λ q. absurd (none≢some (out-unsettled t marks shown v q) e))
+
 -- a walk along a path that has come to k, with the answer still to be found from there on; b says whether the vertex there is settled
 module _ (t marks shown p : List ℕ) (k : ℕ) (come : compatible (settledBy t marks shown) (drop k p) ≡ compatible (settledBy t marks shown) p) where
   module _ (h : k < length p) (b : Bool) (look : b ≡ isIn marks (getD p k 0)) where
@@ -103,19 +118,19 @@ module _ (t marks shown p : List ℕ) (k : ℕ) (come : compatible (settledBy t 
 
 -- a search through slots that has come to k
 module _ (test : ℕ → Bool) where
-  record-empty : (is : List ℕ) → firstRecord test (65535 ∷ is) ≡ 65535
+  pub record-empty : (is : List ℕ) → firstRecord test (65535 ∷ is) ≡ 65535
   unfolding firstRecord
   record-empty is = refl
 
-  record-pass : (i : ℕ) (is : List ℕ) → i ≢ 65535 → test i ≡ true → firstRecord test (i ∷ is) ≡ i
+  pub record-pass : (i : ℕ) (is : List ℕ) → i ≢ 65535 → test i ≡ true → firstRecord test (i ∷ is) ≡ i
   unfolding firstRecord
   record-pass i is f e = rw (ne-eqb i 65535 f, e, firstRecord)
 
-  record-fail : (i : ℕ) (is : List ℕ) → i ≢ 65535 → test i ≡ false → firstRecord test (i ∷ is) ≡ firstRecord test is
+  pub record-fail : (i : ℕ) (is : List ℕ) → i ≢ 65535 → test i ≡ false → firstRecord test (i ∷ is) ≡ firstRecord test is
   unfolding firstRecord
   record-fail i is f e = rw (ne-eqb i 65535 f, e, firstRecord)
 
-  record-nil : firstRecord test [] ≡ 65535
+  pub record-nil : firstRecord test [] ≡ 65535
   unfolding firstRecord
   record-nil = refl
 

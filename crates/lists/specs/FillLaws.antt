@@ -146,6 +146,13 @@ module _ {A : Type 0} (x : A) where
   unfolding padded
   padded-at n xs i h = getD-take n (xs ++ replicate n x) i x h ∙ filler-at n xs i
 
+  -- where the list fits it stands whole in front
+  pub padded-whole : (n : ℕ) (xs : List A) → length xs ≤ n → padded n x xs ≡ xs ++ replicate (n - length xs) x
+  padded-whole n xs h =
+      ext-getD x (padded n x xs) (xs ++ replicate (n - length xs) x)
+      (padded-length n xs ∙ omega (arith, length-append xs (replicate (n - length xs) x), length-replicate (n - length xs) x))
+      (λ i l. padded-at n xs i (omega (arith, padded-length n xs)) ∙ sym (filler-at (n - length xs) xs i))
+
   -- it is the table of its elements
   pub padded-tabulate : (n : ℕ) (xs : List A) → padded n x xs ≡ tabulate (λ i. getD xs i x) n
   padded-tabulate n xs = is-tabulate (λ i. getD xs i x) x n (padded n x xs) (padded-length n xs) (padded-at n xs)

@@ -149,10 +149,10 @@ module _ (t : List ℕ) (e : refusal t ≡ none) (v : ℕ) where
       those-range (λ i. eqb (ownerAt t i) v) (here .start) (records t) (here .size) (here .within)
       (λ i lo hi. eq-eqb (ownerAt t i) v (here .mine i lo hi)) (λ i l q. here .others i l (eqb-true (ownerAt t i) v q))
 
-  owned-length : length (owned t (records t) v) ≡ here .size
+  pub owned-length : length (owned t (records t) v) ≡ here .size
   owned-length = ap length owned-block ∙ tabulate-length (λ k. here .start + k) (here .size)
 
-  owned-at : (k : ℕ) → k < here .size → getD (owned t (records t) v) k 0 ≡ here .start + k
+  pub owned-at : (k : ℕ) → k < here .size → getD (owned t (records t) v) k 0 ≡ here .start + k
   owned-at k l = ap (λ (o : List ℕ). getD o k 0) owned-block ∙ tabulate-at (λ j. here .start + j) (here .size) k 0 l
 
   -- ranks are 1 to n for each owner

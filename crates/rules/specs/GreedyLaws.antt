@@ -4,7 +4,7 @@ use mathlib.Core.Logic.{_≢_, _⊎_, inl, inr, ⊎-map}
 use mathlib.Core.Bool.{Bool, true, false, not}
 use mathlib.Core.List.{List, [], _∷_}
 use mathlib.Core.Option.{Option, none, some}
-use Prim.Native.Nat.{ℕ, zero, suc, _+_, _<_, _≤_}
+use Prim.Native.Nat.{ℕ, zero, suc, _+_, _-_, _<_, _≤_}
 use native.Mathlib.Omega.{arith}
 use lib.ListN.{List·getD-eq-default}
 use borrow.Author.Tests.{ne-eqb, not-true, not-false}
@@ -254,7 +254,35 @@ module _ (paths : ℕ → List Path) (present : ℕ → Bool) where
       → settled paths present (stageCount paths present + n) v ≡ settled paths present (stageCount paths present) v
   settled-end n v = quiet-on (stageCount paths present) n v stages-quiet
 
+  -- somebody enters only in a counted stage
+  pub enters-counted : (k v : ℕ) (p : Path)
+      → k ≤ stageCount paths present
+      → settled paths present k v ≡ none
+      → settled paths present (suc k) v ≡ some p
+      → k < stageCount paths present
+  enters-counted k v p h e f =
+      by-equal k (stageCount paths present)
+      (λ q. absurd (none≢some (rw q at e)
+      (sym (settled-end 1 v) ∙ ap (λ (n : ℕ). settled paths present n v) (let z : stageCount paths present + 1 ≡ suc k = omega arith in z) ∙ f)))
+      (λ q. omega arith)
+
   -- the stage at which a vertex settled
+
+  -- it is that in which it enters
+  pub stage-entered : (k v : ℕ) (p : Path)
+      → k < 63
+      → settled paths present k v ≡ none
+      → settled paths present (suc k) v ≡ some p
+      → stageOf paths present v ≡ suc k
+  unfolding stageOf isSettled
+  stage-entered k v p h e f =
+      let r = finds-passing (λ n. isSettled (settled paths present n v)) 64 64 (suc k) (omega arith) (rw f) in
+      let s = is-some _ (r .passes) in
+      by-less (stageOf paths present v) (suc k)
+      (λ l. absurd (none≢some e (let z : stageOf paths present v + (k - stageOf paths present v) ≡ k = omega arith in
+      rw z at (settled-later (stageOf paths present v) (k - stageOf paths present v) v (s .0) (s .1)))))
+      (λ l. by-less (suc k) (stageOf paths present v)
+      (λ m. absurd (none≢some (is-none _ (r .earliest (suc k) (omega arith) m)) f)) (λ m. omega arith))
 
   module _ (v : ℕ) (p : Path) (e : settled paths present (stageCount paths present) v ≡ some p) where
     -- it is the first after which the vertex is settled

@@ -1,0 +1,3 @@
+-- What stands after each stage of the check, and after the last one.
+pub mod Settling
+pub mod SettlingLaws
