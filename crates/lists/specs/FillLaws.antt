@@ -8,7 +8,7 @@ use native.Mathlib.Omega.{arith}
 use native.Mathlib.Nat.{not-suc-le-zero, mul-suc, mul-le-mul-left}
 use native.Mathlib.Numerals.{add-one}
 use lib.ListN.{length, getD, take, drop, set, replicate, length-append, length-take, length-drop, length-replicate, List·getD-append, length-set, drop-of-length-le}
-use lib.Seq.{ext-getD, getD-at, take-append-le, take-all, take-at, drop-append-le, getD-set-same, getD-set-other, drop-at, drop-cons, getD-take}
+use lib.Seq.{ext-getD, getD-at, take-append-le, take-all, take-at, drop-append-le, getD-set-same, getD-set-other, take-suc-set, drop-at, drop-cons, getD-take}
 use lib.Dec.{eqb}
 use borrow.Author.Tests.{eq-eqb, ne-eqb}
 use Rattle.lists.specs.Search.{elem}
@@ -203,3 +203,16 @@ module _ (marks : List Bool) (ns : List ℕ) (k : ℕ) where
   pub marked-end : length ns ≤ k → marked marks (drop k ns) ≡ marks
   unfolding marked
   marked-end h = rw (drop-of-length-le ns h)
+
+-- a buffer filled from the front, one store at each place: its first k elements are those of f below k
+module _ {A : Type 0} (f : ℕ → A) where
+  pub fill-more : (l next : List A) (k : ℕ) (x : A)
+      → take k l ≡ tabulate f k
+      → k < length l
+      → next ≡ set l k x
+      → x ≡ f k
+      → take (k + 1) next ≡ tabulate f (k + 1)
+  fill-more l next k x e h q r = rw (q, add-one, tabulate-suc f k, take-suc-set l k x h, e, r)
+
+  pub fill-end : (l : List A) (k n : ℕ) → take k l ≡ tabulate f k → n ≡ length l → k ≡ n → l ≡ tabulate f n
+  fill-end l k n e q r = sym (take-all n l (omega arith)) ∙ (rw r at e)
