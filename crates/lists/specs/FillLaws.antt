@@ -3,12 +3,12 @@ use mathlib.Core.Path.{_≡_, refl, sym, ap, _∙_}
 use mathlib.Core.Logic.{_≢_}
 use mathlib.Core.Bool.{Bool, true, _||_, or-true, or-false, or-assoc}
 use mathlib.Core.List.{List, [], _∷_, _++_, append-assoc, append-nil}
-use Prim.Native.Nat.{ℕ, zero, suc, _+_, _-_, _*_, _<_, _≤_}
+use Prim.Native.Nat.{ℕ, zero, suc, _+_, _-_, _*_, _<_, _≤_, min}
 use native.Mathlib.Omega.{arith}
 use native.Mathlib.Nat.{not-suc-le-zero, mul-suc, mul-le-mul-left}
 use native.Mathlib.Numerals.{add-one}
 use lib.ListN.{length, getD, take, drop, set, replicate, length-append, length-take, length-drop, length-replicate, List·getD-append, length-set, drop-of-length-le}
-use lib.Seq.{ext-getD, getD-at, take-append-le, take-all, take-at, drop-append-le, getD-set-same, getD-set-other, take-suc-set, drop-at, drop-cons, getD-take}
+use lib.Seq.{ext-getD, getD-at, take-append-le, take-all, take-at, drop-append-le, getD-append-add, getD-set-same, getD-set-other, take-suc-set, drop-at, drop-cons, getD-take}
 use lib.Dec.{eqb}
 use borrow.Author.Tests.{eq-eqb, ne-eqb}
 use Rattle.lists.specs.Search.{elem}
@@ -216,3 +216,15 @@ module _ {A : Type 0} (f : ℕ → A) where
 
   pub fill-end : (l : List A) (k n : ℕ) → take k l ≡ tabulate f k → n ≡ length l → k ≡ n → l ≡ tabulate f n
   fill-end l k n e q r = sym (take-all n l (omega arith)) ∙ (rw r at e)
+
+-- padded to n with two lists end to end: the first list's places are those of the first alone, and behind them the second is padded
+pub padded-append : {A : Type 0} (x : A) (n : ℕ) (a b : List A) (m : ℕ)
+    → m ≡ min (length a) n
+    → take m (padded n x a) ++ padded (n - m) x b ≡ padded n x (a ++ b)
+padded-append {A} x n a b m e =
+    let f : ℕ → A = λ i. getD (a ++ b) i x in
+    let front = tabulate-ext (λ i. getD a i x) f m (λ i h. sym (List·getD-append a b x i (omega arith))) in
+    let behind = tabulate-ext (λ i. getD b i x) (λ i. f (m + i)) (n - m)
+    (λ i h. let z : m ≡ length a = omega arith in sym (rw z (getD-append-add a b i x))) in
+    rw (padded-tabulate x n a, padded-tabulate x (n - m) b, tabulate-take (λ i. getD a i x) n m (omega arith), front, behind)
+    (sym (padded-tabulate x n (a ++ b) ∙ tabulate-split f n m (omega arith)))

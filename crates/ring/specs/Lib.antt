@@ -1,0 +1,3 @@
+-- The ring of the stuck vertices.
+pub mod Ring
+pub mod WalkLaws
