@@ -1,18 +1,18 @@
+-- `ring::is_marked` meets its contract: past the end there is no mark.
+-- Assumes nothing.
+use mathlib.Core.Path.{sym}
+use mathlib.Core.Bool.{false}
 use borrow.Author.Needs.{needs}
+use lib.ListN.{List·getD-eq-default}
 use Rattle.ring.proofs.is_marked.Statement.{statement}
 use Rattle.ring.proofs.is_marked.Tie as tie
-use Rattle.ring.proofs.is_marked.Reads as reads
-use Rattle.ring.proofs.is_marked.Lts as lts
 
--- src/lib.rt:18:9
 returns : tie.Need-returns
-returns c = ?
+returns c = sym (List·getD-eq-default (c .before .args .marks .now) false (c .if1 .taken))
 
--- src/lib.rt:20:5
 shared-slice-read-result : tie.Need-shared-slice-read-result
 shared-slice-read-result c = search needs
 
--- src/lib.rt:14:1
 returns-2 : tie.Need-returns-2
 returns-2 c = search needs
 

@@ -1,58 +1,53 @@
+-- `ring::lowest_marked` meets its contract: the search goes on from v.
+-- Assumes nothing.
+use mathlib.Core.Path.{_≡_, refl, sym, _∙_}
+use mathlib.Core.Bool.{false}
+use Prim.Native.Nat.{_-_, _≤_}
+use native.Mathlib.Omega.{arith}
+use borrow.Author.Needs.{needs}
+use lib.ListN.{getD}
+use Rattle.lists.specs.Search.{firstFrom}
+use Rattle.ring.specs.WalkLaws.{lowest-hit, lowest-next, lowest-end}
 use Rattle.ring.proofs.lowest_marked.Statement.{statement}
 use Rattle.ring.proofs.lowest_marked.Tie as tie
-use Rattle.ring.proofs.lowest_marked.Reads as reads
-use Rattle.ring.proofs.lowest_marked.Lts as lts
-use Rattle.ring.proofs.is_marked.Reads as is-marked-reads
 
 abbrev Inv-loop : tie.InvT-loop
-Inv-loop marks v₀ v = ?
+Inv-loop marks v₀ v = (v ≤ 64) × (firstFrom (λ k. getD marks k false) v (64 - v) ≡ firstFrom (λ k. getD marks k false) 0 64)
 
 abbrev μ-loop : tie.MeasureT-loop
-μ-loop marks v₀ v = ?
+μ-loop marks v₀ v = 64 - v
 
--- src/lib.rt:28:5
 loop-holds : tie.Need-loop-holds Inv-loop μ-loop
-loop-holds c = ?
+loop-holds c = (omega arith, refl)
 
--- src/lib.rt:29:29
 cast-is-marked : tie.Need-cast-is-marked Inv-loop μ-loop
-cast-is-marked c = ?
+cast-is-marked c = omega arith
 
--- src/lib.rt:29:12
 is-marked-requires : tie.Need-is-marked-requires Inv-loop μ-loop
-is-marked-requires c κs = ?
+is-marked-requires c κs = search needs
 
--- src/lib.rt:30:13
 returns : tie.Need-returns Inv-loop μ-loop
-returns c = ?
+returns c =
+    let a = c .before .before .before in
+    lowest-hit _ (a .loop .v) (a .loop .inv .1) (c .before .before .loop-test .taken)
+    (sym (c .before .is-marked .ensures) ∙ c .if1 .taken)
 
--- src/lib.rt:32:9
 add-v : tie.Need-add-v Inv-loop μ-loop
-add-v c = ?
+add-v c = omega arith
 
--- src/lib.rt:28:5
 loop-less : tie.Need-loop-less Inv-loop μ-loop
-loop-less c = ?
+loop-less c = omega arith
 
--- src/lib.rt:28:5
 loop-again : tie.Need-loop-again Inv-loop μ-loop
-loop-again c = ?
+loop-again c =
+    let a = c .before .before .before in (
+      omega arith,
+      lowest-next (a .before .before .args .marks .now) (a .loop .v) (a .loop .inv .1) (c .before .before .loop-test .taken)
+          (sym (c .before .is-marked .ensures) ∙ c .if1 .left),
+    )
 
--- src/lib.rt:24:1
 returns-2 : tie.Need-returns-2 Inv-loop μ-loop
-returns-2 c = ?
+returns-2 c = lowest-end _ (c .before .loop .v) (c .before .loop .inv .1) (c .loop-test .left)
 
 pub lowest-marked-spec : {M : Type 1} → statement M
-lowest-marked-spec =
-    tie.close
-    (tie.spec
-    Inv-loop
-    μ-loop
-    loop-holds
-    cast-is-marked
-    is-marked-requires
-    returns
-    add-v
-    loop-less
-    loop-again
-    returns-2)
+lowest-marked-spec = tie.close (tie.spec Inv-loop μ-loop loop-holds cast-is-marked is-marked-requires returns add-v loop-less loop-again returns-2)

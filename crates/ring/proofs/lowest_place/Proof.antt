@@ -1,62 +1,49 @@
+-- `ring::lowest_place` meets its contract: the lowest of those passed and its first place are kept.
+-- Assumes nothing.
+use mathlib.Core.Path.{_≡_, refl, sym, _∙_}
+use Prim.Native.Nat.{_-_, _≤_}
+use native.Mathlib.Omega.{arith}
+use lib.ListN.{length}
+use Rattle.ring.specs.WalkLaws.{Lowest, lowest-none, lowest-kept, lowest-new, lowest-place}
 use Rattle.ring.proofs.lowest_place.Statement.{statement}
 use Rattle.ring.proofs.lowest_place.Tie as tie
-use Rattle.ring.proofs.lowest_place.Reads as reads
-use Rattle.ring.proofs.lowest_place.Lts as lts
 
 abbrev Inv-loop : tie.InvT-loop
-Inv-loop part low₀ place₀ i₀ low place i = ?
+Inv-loop part low₀ place₀ i₀ low place i = (i ≤ length part) × Lowest part i low place
 
 abbrev μ-loop : tie.MeasureT-loop
-μ-loop part low₀ place₀ i₀ low place i = ?
+μ-loop part low₀ place₀ i₀ low place i = length part - i
 
--- src/lib.rt:94:5
 loop-holds : tie.Need-loop-holds Inv-loop μ-loop
-loop-holds c = ?
+loop-holds c = (omega arith, lowest-none _)
 
--- src/lib.rt:96:9
 add-i : tie.Need-add-i Inv-loop μ-loop
-add-i c = ?
+add-i c = omega arith
 
--- src/lib.rt:97:19
 shared-slice-read-if1 : tie.Need-shared-slice-read-if1 Inv-loop μ-loop
-shared-slice-read-if1 c = ?
+shared-slice-read-if1 c = omega arith
 
--- src/lib.rt:94:5
 loop-less : tie.Need-loop-less Inv-loop μ-loop
-loop-less c = ?
+loop-less c = omega arith
 
--- src/lib.rt:94:5
 loop-again : tie.Need-loop-again Inv-loop μ-loop
-loop-again c = ?
+loop-again c =
+    let a = c .before .before .before in
+    (omega arith, lowest-kept _ _ _ _ (a .loop .inv .1) (c .if1 .taken))
 
--- src/lib.rt:100:15
 shared-slice-read-low : tie.Need-shared-slice-read-low Inv-loop μ-loop
-shared-slice-read-low c = ?
+shared-slice-read-low c = omega arith
 
--- src/lib.rt:94:5
 loop-less-2 : tie.Need-loop-less-2 Inv-loop μ-loop
-loop-less-2 c = ?
+loop-less-2 c = omega arith
 
--- src/lib.rt:94:5
 loop-again-2 : tie.Need-loop-again-2 Inv-loop μ-loop
-loop-again-2 c = ?
+loop-again-2 c =
+    let a = c .before .before .before .before in
+    (omega arith, lowest-new _ _ _ _ (a .loop .inv .1) (c .before .if1 .left))
 
--- src/lib.rt:88:1
 returns : tie.Need-returns Inv-loop μ-loop
-returns c = ?
+returns c = lowest-place _ _ _ _ (c .before .loop .inv .1) (omega arith)
 
 pub lowest-place-spec : {M : Type 1} → statement M
-lowest-place-spec =
-    tie.close
-    (tie.spec
-    Inv-loop
-    μ-loop
-    loop-holds
-    add-i
-    shared-slice-read-if1
-    loop-less
-    loop-again
-    shared-slice-read-low
-    loop-less-2
-    loop-again-2
-    returns)
+lowest-place-spec = tie.close (tie.spec Inv-loop μ-loop loop-holds add-i shared-slice-read-if1 loop-less loop-again shared-slice-read-low loop-less-2 loop-again-2 returns)

@@ -1,52 +1,43 @@
+-- `ring::place_of` meets its contract: what stands before v from i on tells the place.
+-- Assumes nothing.
+use mathlib.Core.Path.{_≡_, refl, sym, _∙_}
+use Prim.Native.Nat.{_+_, _-_, _≤_}
+use native.Mathlib.Omega.{arith}
+use lib.ListN.{length, drop}
+use Rattle.ring.specs.WalkLaws.{placeIn, place-hit, place-next, place-end}
 use Rattle.ring.proofs.place_of.Statement.{statement}
 use Rattle.ring.proofs.place_of.Tie as tie
-use Rattle.ring.proofs.place_of.Reads as reads
-use Rattle.ring.proofs.place_of.Lts as lts
 
 abbrev Inv-loop : tie.InvT-loop
-Inv-loop v part i₀ i = ?
+Inv-loop v part i₀ i = (i ≤ length part) × (i + placeIn v (drop i part) ≡ placeIn v part)
 
 abbrev μ-loop : tie.MeasureT-loop
-μ-loop v part i₀ i = ?
+μ-loop v part i₀ i = length part - i
 
--- src/lib.rt:53:5
 loop-holds : tie.Need-loop-holds Inv-loop μ-loop
-loop-holds c = ?
+loop-holds c = (omega arith, omega arith)
 
--- src/lib.rt:54:12
 shared-slice-read-if1 : tie.Need-shared-slice-read-if1 Inv-loop μ-loop
-shared-slice-read-if1 c = ?
+shared-slice-read-if1 c = omega arith
 
--- src/lib.rt:55:13
 returns : tie.Need-returns Inv-loop μ-loop
-returns c = ?
+returns c =
+    let a = c .before .before .before in
+    place-hit _ _ (a .loop .i) (a .loop .inv .1) (c .before .before .loop-test .taken) (c .if1 .taken)
 
--- src/lib.rt:57:9
 add-i : tie.Need-add-i Inv-loop μ-loop
-add-i c = ?
+add-i c = omega arith
 
--- src/lib.rt:53:5
 loop-less : tie.Need-loop-less Inv-loop μ-loop
-loop-less c = ?
+loop-less c = omega arith
 
--- src/lib.rt:53:5
 loop-again : tie.Need-loop-again Inv-loop μ-loop
-loop-again c = ?
+loop-again c =
+    let a = c .before .before .before in
+    (omega arith, place-next _ _ (a .loop .i) (a .loop .inv .1) (c .before .before .loop-test .taken) (c .if1 .left))
 
--- src/lib.rt:49:1
 returns-2 : tie.Need-returns-2 Inv-loop μ-loop
-returns-2 c = ?
+returns-2 c = place-end _ _ (c .before .loop .i) (c .before .loop .inv .1) (c .loop-test .left)
 
 pub place-of-spec : {M : Type 1} → statement M
-place-of-spec =
-    tie.close
-    (tie.spec
-    Inv-loop
-    μ-loop
-    loop-holds
-    shared-slice-read-if1
-    returns
-    add-i
-    loop-less
-    loop-again
-    returns-2)
+place-of-spec = tie.close (tie.spec Inv-loop μ-loop loop-holds shared-slice-read-if1 returns add-i loop-less loop-again returns-2)
