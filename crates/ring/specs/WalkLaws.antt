@@ -162,7 +162,7 @@ pub record Lowest (l : List ℕ) (i low place : ℕ) : Type 0 where
   pub found : ((low ≡ 64) × (place ≡ length l)) ⊎ FirstAt l i low place
 
 pub lowest-none : (l : List ℕ) → Lowest l 0 64 (length l)
-lowest-none l = record { most = omega arith; least = λ j h. absurd (not-suc-le-zero h); found = inl (refl, refl); }
+lowest-none l = record { most = omega arith; least = λ j h. absurd (not-suc-le-zero h); found = inl (refl, refl) }
 
 module _ (l : List ℕ) (i low place : ℕ) (p : Lowest l i low place) where
   pub lowest-kept : low ≤ getD l i 0 → Lowest l (i + 1) low place
@@ -171,7 +171,7 @@ module _ (l : List ℕ) (i low place : ℕ) (p : Lowest l i low place) where
         most = p .most;
         least = λ j k. by-equal j i (λ e. rw e h) (λ e. p .least j (omega arith));
         found = ⊎-elim (λ q. inl q)
-            (λ q. inr (record { small = q .small; within = omega (arith, q .within); here = q .here; before = q .before; }))
+            (λ q. inr (record { small = q .small; within = omega (arith, q .within); here = q .here; before = q .before }))
             (p .found);
       }
 
@@ -180,7 +180,7 @@ module _ (l : List ℕ) (i low place : ℕ) (p : Lowest l i low place) where
       record {
         most = omega (arith, p .most);
         least = λ j k. by-equal j i (λ e. rw e (omega arith)) (λ e. omega (arith, p .least j (omega arith)));
-        found = inr (record { small = omega (arith, p .most); within = omega arith; here = refl; before = λ j k. omega (arith, p .least j k); });
+        found = inr (record { small = omega (arith, p .most); within = omega arith; here = refl; before = λ j k. omega (arith, p .least j k) });
       }
 
 -- the place of a vertex that is not there, and of one that has its first place there
@@ -293,3 +293,24 @@ module _ (S : List Bool) where
         by-option (firstFrom marks 0 64)
         (λ q. absurd (f (rw (q, lowestMarked) at low)))
         (λ v q. let z : s ≡ v = rw (q, lowestMarked) at low in rw (z, q, ringFrom))
+
+    -- so what is written of the one and of the other is the ring, with its length
+
+    pub writes-none : (n : ℕ) (written : List ℕ)
+        → s ≡ 64
+        → written ≡ padded n 255 []
+        → (0 ≡ length (ringIn T S B)) × (written ≡ padded n 255 (ringIn T S B))
+    writes-none n written e q = rw (ring-empty e) (refl, q)
+
+    pub writes-ring : (n from to : ℕ) (seen written : List ℕ)
+        → s ≢ 64
+        → from ≤ to
+        → to ≤ length seen
+        → take (to - from) (drop from seen) ≡ closedPart (nextIn T B) 65 [] s
+        → written ≡ padded n 255 (turned (take (to - from) (drop from seen)))
+        → (to - from ≡ length (ringIn T S B)) × (written ≡ padded n 255 (ringIn T S B))
+    writes-ring n from to seen written f g h e q =
+        let part = take (to - from) (drop from seen) in
+        let is : ringIn T S B ≡ turned part = ring-walked f ∙ ap turned (sym e) in
+        let count : length part ≡ to - from = length-take (to - from) (drop from seen) ∙ omega (arith, length-drop from seen) in
+        (sym (ap length is ∙ turned-length part ∙ count), q ∙ ap (padded n 255) (sym is))
