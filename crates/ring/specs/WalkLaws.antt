@@ -3,18 +3,16 @@ use mathlib.Core.Path.{_≡_, refl, sym, ap, _∙_}
 use mathlib.Core.Logic.{_≢_, _⊎_, inl, inr, ⊎-elim}
 use mathlib.Core.Bool.{Bool, true, false}
 use mathlib.Core.List.{List, [], _∷_, _++_, append-nil}
-use mathlib.Core.Option.{Option, none, some}
 use Prim.Native.Nat.{ℕ, zero, suc, _+_, _-_, _<_, _≤_, min}
 use native.Mathlib.Omega.{arith}
 use native.Mathlib.Nat.{not-suc-le-zero}
 use native.Mathlib.Numerals.{add-one}
 use lib.ListN.{length, getD, take, drop, set, drop-of-length-le, length-append, length-take, length-drop, List·getD-eq-default}
-use lib.Seq.{drop-cons, take-suc-set, take-all, take-nil}
-use lib.Dec.{eqb}
+use lib.Seq.{drop-cons, take-suc-set}
 use borrow.Author.Tests.{eq-eqb, ne-eqb}
 use Rattle.lists.specs.Search.{elem, firstFrom}
-use Rattle.lists.specs.SearchLaws.{Found, first-found, finds-passing, search-hit, search-next, search-end}
-use Rattle.lists.specs.Tests.{by-test, by-equal, by-less, by-option, true≢, none≢some}
+use Rattle.lists.specs.SearchLaws.{first-found, finds-passing, search-hit, search-next, search-end}
+use Rattle.lists.specs.Tests.{by-test, by-equal, by-less, by-option, true≢}
 use Rattle.lists.specs.Parts.{part-to-end, rest-of-first}
 use Rattle.lists.specs.Fill.{padded}
 use Rattle.lists.specs.FillLaws.{padded-length, padded-append}

@@ -1,6 +1,5 @@
 -- `ring::lowest_place` meets its contract: the lowest of those passed and its first place are kept.
 -- Assumes nothing.
-use mathlib.Core.Path.{_≡_, refl, sym, _∙_}
 use Prim.Native.Nat.{_-_, _≤_}
 use native.Mathlib.Omega.{arith}
 use lib.ListN.{length}

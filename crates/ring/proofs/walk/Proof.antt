@@ -39,10 +39,8 @@ same-length c = c .before .before .before .before .loop .inv .1
 returns : tie.Need-returns Inv-loop μ-loop
 returns c =
     let a = c .before .before .before .before in
-    let p = c .before .place-of in
-    let l : p .result ≤ a .loop .n = omega arith in
-    let m : a .loop .n ≤ length (a .before .before .before .before .args .seen .now) = omega arith in (
-      (l, m),
+    let p = c .before .place-of in (
+      (omega arith, omega arith),
       walk-closes _ _ _ (a .loop .n) _ _ (a .loop .inv .2) (omega arith) (a .loop .inv .1) _ (p .ensures) (c .if1 .taken),
     )
 

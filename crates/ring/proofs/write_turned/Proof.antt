@@ -1,7 +1,6 @@
 -- `ring::write_turned` meets its contract: the two fillings are the turned list, padded.
 -- Assumes nothing.
 use mathlib.Core.Path.{sym}
-use native.Mathlib.Omega.{arith}
 use borrow.Author.Needs.{needs}
 use lib.Seq.{length-take-le}
 use Rattle.ring.specs.WalkLaws.{place-most, turned-written}
