@@ -3,12 +3,12 @@ use mathlib.Core.Path.{_≡_, refl, sym, ap, _∙_}
 use mathlib.Core.Logic.{_≢_}
 use mathlib.Core.Bool.{Bool, true, _||_, or-true, or-false, or-assoc}
 use mathlib.Core.List.{List, [], _∷_, _++_, append-assoc, append-nil}
-use Prim.Native.Nat.{ℕ, zero, suc, _+_, _-_, _*_, _<_, _≤_}
+use Prim.Native.Nat.{ℕ, zero, suc, _+_, _-_, _*_, _<_, _≤_, min}
 use native.Mathlib.Omega.{arith}
 use native.Mathlib.Nat.{not-suc-le-zero, mul-suc, mul-le-mul-left}
 use native.Mathlib.Numerals.{add-one}
 use lib.ListN.{length, getD, take, drop, set, replicate, length-append, length-take, length-drop, length-replicate, List·getD-append, length-set, drop-of-length-le}
-use lib.Seq.{ext-getD, getD-at, take-append-le, take-all, take-at, drop-append-le, getD-set-same, getD-set-other, drop-at, drop-cons, getD-take}
+use lib.Seq.{ext-getD, getD-at, take-append-le, take-all, take-at, drop-append-le, getD-append-add, getD-set-same, getD-set-other, take-suc-set, drop-at, drop-cons, getD-take}
 use lib.Dec.{eqb}
 use borrow.Author.Tests.{eq-eqb, ne-eqb}
 use Rattle.lists.specs.Search.{elem}
@@ -210,3 +210,28 @@ module _ (marks : List Bool) (ns : List ℕ) (k : ℕ) where
   pub marked-end : length ns ≤ k → marked marks (drop k ns) ≡ marks
   unfolding marked
   marked-end h = rw (drop-of-length-le ns h)
+
+-- a buffer filled from the front, one store at each place: its first k elements are those of f below k
+module _ {A : Type 0} (f : ℕ → A) where
+  pub fill-more : (l next : List A) (k : ℕ) (x : A)
+      → take k l ≡ tabulate f k
+      → k < length l
+      → next ≡ set l k x
+      → x ≡ f k
+      → take (k + 1) next ≡ tabulate f (k + 1)
+  fill-more l next k x e h q r = rw (q, add-one, tabulate-suc f k, take-suc-set l k x h, e, r)
+
+  pub fill-end : (l : List A) (k n : ℕ) → take k l ≡ tabulate f k → n ≡ length l → k ≡ n → l ≡ tabulate f n
+  fill-end l k n e q r = sym (take-all n l (omega arith)) ∙ (rw r at e)
+
+-- padded to n with two lists end to end: the first list's places are those of the first alone, and behind them the second is padded
+pub padded-append : {A : Type 0} (x : A) (n : ℕ) (a b : List A) (m : ℕ)
+    → m ≡ min (length a) n
+    → take m (padded n x a) ++ padded (n - m) x b ≡ padded n x (a ++ b)
+padded-append {A} x n a b m e =
+    let f : ℕ → A = λ i. getD (a ++ b) i x in
+    let front = tabulate-ext (λ i. getD a i x) f m (λ i h. sym (List·getD-append a b x i (omega arith))) in
+    let behind = tabulate-ext (λ i. getD b i x) (λ i. f (m + i)) (n - m)
+    (λ i h. let z : m ≡ length a = omega arith in sym (rw z (getD-append-add a b i x))) in
+    rw (padded-tabulate x n a, padded-tabulate x (n - m) b, tabulate-take (λ i. getD a i x) n m (omega arith), front, behind)
+    (sym (padded-tabulate x n (a ++ b) ∙ tabulate-split f n m (omega arith)))

@@ -220,3 +220,9 @@ module _ (p : List ℕ) (i : ℕ) (come : twice (drop i p) ≡ twice p) where
   pub twice-end : length p ≤ i → false ≡ twice p
   unfolding twice
   twice-end h = rw (drop-of-length-le p h) at come
+
+-- a place that is there has the same element, whatever stands for what is past the end
+pub at-place : {A : Type 0} (l : List A) (k : ℕ) (d e : A) → k < length l → getD l k d ≡ getD l k e
+at-place [] k d e h = absurd (not-suc-le-zero h)
+at-place (x ∷ xs) zero d e h = refl
+at-place (x ∷ xs) (suc k) d e h = at-place xs k d e (omega arith)

@@ -4,9 +4,10 @@ use mathlib.Core.Logic.{⊎-elim}
 use mathlib.Core.Bool.{Bool, true, false, not, _&&_, _||_}
 use mathlib.Core.List.{[], _∷_, _++_}
 use mathlib.Core.Option.{Option, none, some}
-use Prim.Native.Nat.{ℕ, zero, suc, _+_, _<_, _≤_, max}
+use Prim.Native.Nat.{ℕ, zero, suc, _+_, _-_, _<_, _≤_, max}
 use native.Mathlib.Omega.{arith}
 use native.Mathlib.Nat.{not-suc-le-zero}
+use native.Mathlib.Numerals.{add-one}
 use lib.Dec.{eqb}
 use borrow.Author.Tests.{eq-eqb, ne-eqb}
 use Rattle.lists.specs.Search.{firstFrom, anyBelow, countBelow, thoseBelow, maxBelow}
@@ -229,3 +230,18 @@ module _ (f : ℕ → ℕ) where
       by-equal k n
       (λ q. let e : f k ≡ f n = ap f q in omega (arith, max-suc n))
       (λ q. omega (arith, max-suc n, max-bounds n k (omega arith)))
+
+-- a search below n that has come to i, with the answer o still to be found from there on
+module _ (test : ℕ → Bool) (n i : ℕ) (o : Option ℕ) (come : firstFrom test i (n - i) ≡ o) where
+  left-over : i < n → n - i ≡ suc (n - (i + 1))
+  left-over h = omega arith
+
+  pub search-hit : i < n → test i ≡ true → o ≡ some i
+  search-hit h e = sym (rw (left-over h) at come) ∙ first-hit test i (n - (i + 1)) e
+
+  pub search-next : i < n → test i ≡ false → firstFrom test (i + 1) (n - (i + 1)) ≡ o
+  search-next h e =
+      ap (λ (k : ℕ). firstFrom test k (n - (i + 1))) (add-one i) ∙ sym (first-miss test i (n - (i + 1)) e) ∙ (rw (left-over h) at come)
+
+  pub search-end : n ≤ i → o ≡ none
+  search-end h = let z : n - i ≡ 0 = omega arith in sym (rw z at come) ∙ first-end test i

@@ -2,9 +2,9 @@
 ghost use mathlib.Core.Path.{_≡_};
 ghost use mathlib.Core.Bool.{true};
 ghost use Prim.Native.Nat.{min, max};
-ghost use lib.ListN.{getD, set};
+ghost use lib.ListN.{getD, length, set};
 ghost use Rattle.lists.specs.Search.{anyIn, elem, outside, same, twice};
-ghost use Rattle.lists.specs.Fill.{marked};
+ghost use Rattle.lists.specs.Fill.{marked, padded};
 
 // The byte at k, 0 past the end.
 pub fn byte_at(part: &[u8], k: usize) -> u8
@@ -104,6 +104,27 @@ pub fn mark_all(marks: &mut [bool], path: &[u8])
     while k < path.len() {
         mark(marks, path[k] as usize);
         k += 1;
+    }
+}
+
+// The byte at k, 255 past the end.
+fn byte_or_255(part: &[u8], k: usize) -> u8
+    ensures { λ r. ⌜ r ≡ getD (now (part .entry)) k 255 ⌝ }
+{
+    if k < part.len() {
+        return part[k];
+    }
+    255
+}
+
+// Fills the part with the bytes, then 255; bytes past its end are left out.
+pub fn fill_padded(part: &mut [u8], bytes: &[u8])
+    ensures { λ r. ⌜ now (part .exit) ≡ padded (length (now (part .entry))) 255 (now (bytes .entry)) ⌝ }
+{
+    let mut at = 0;
+    while at < part.len() {
+        part[at] = byte_or_255(bytes, at);
+        at += 1;
     }
 }
 

@@ -1,0 +1,2 @@
+-- Laws of the contracts.
+pub mod OneResult
