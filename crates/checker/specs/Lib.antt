@@ -1,3 +1,5 @@
 -- What stands after each stage of the check, and after the last one.
 pub mod Settling
 pub mod SettlingLaws
+pub mod Rows
+pub mod RowLaws

@@ -1,0 +1,74 @@
+// The stages, from the marks before the first to the marks and records after the last.
+ghost use mathlib.Core.Path.{_≡_};
+ghost use mathlib.Core.Bool.{false};
+ghost use mathlib.Core.Option.{none};
+ghost use Prim.Native.Nat.{min};
+ghost use lib.ListN.{getD, length};
+ghost use Rattle.lists.specs.Fill.{tabulate};
+ghost use Rattle.rules.specs.Table.{records, slotsOf};
+ghost use Rattle.rules.specs.Refusals.{refusal};
+ghost use Rattle.checker.specs.Settling.{startMark, Ended};
+use facts::present_in;
+use judge::Standing;
+use judge::stage;
+use parts::same_parts;
+
+// The marks and records after the last stage, and how many stages counted.
+pub(crate) struct Settling {
+    marks: [u8; 64],
+    shown: [u16; 64],
+    stages: u8,
+}
+
+// The mark of a vertex before the first stage.
+fn start_mark(v: usize, is_present: bool) -> u8
+    ensures { λ r. ⌜ r ≡ startMark (λ u. is_present) v ⌝ }
+{
+    if v == 0 {
+        return 0;
+    }
+    if is_present {
+        return 255;
+    }
+    254
+}
+
+// The marks before the first stage.
+fn start_marks(present: [bool; 64]) -> [u8; 64]
+    ensures { λ r. ⌜ r ≡ tabulate (startMark (λ v. getD present v false)) 64 ⌝ }
+{
+    let mut marks = [0; 64];
+    let mut v = 0;
+    while v < 64 {
+        marks[v] = start_mark(v, present[v]);
+        v += 1;
+    }
+    marks
+}
+
+// Runs stages until one in which nobody enters, which is not counted; who waits then shows its best compatible path.
+pub(crate) fn settle(t: &[u8], slots: [[u16; 16]; 64]) -> Settling
+    requires { ⌜ (refusal (now t) ≡ none) × (slots ≡ slotsOf (now t) (min (records (now t)) 1008)) ⌝ }
+    ensures { λ r. ⌜ Ended (now (t .entry)) (r .marks) (r .shown) (r .stages) ⌝ }
+{
+    let mut now = Standing {
+        marks: start_marks(present_in(t)),
+        shown: [65535; 64],
+    };
+    let mut s = 0;
+    loop {
+        let before = now.marks;
+        let next = stage(t, slots, now, s + 1);
+        let marks = next.marks;
+        if same_parts(&before, &marks) {
+            let shown = next.shown;
+            return Settling {
+                marks,
+                shown,
+                stages: s,
+            };
+        }
+        now = next;
+        s += 1;
+    }
+}
