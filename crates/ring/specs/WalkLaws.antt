@@ -3,12 +3,12 @@ use mathlib.Core.Path.{_≡_, refl, sym, ap, _∙_}
 use mathlib.Core.Logic.{_≢_, _⊎_, inl, inr, ⊎-elim}
 use mathlib.Core.Bool.{Bool, true, false}
 use mathlib.Core.List.{List, [], _∷_, _++_, append-nil}
-use Prim.Native.Nat.{ℕ, zero, suc, _+_, _-_, _<_, _≤_, min}
+use Prim.Native.Nat.{ℕ, suc, _+_, _-_, _<_, _≤_, min}
 use native.Mathlib.Omega.{arith}
 use native.Mathlib.Nat.{not-suc-le-zero}
 use native.Mathlib.Numerals.{add-one}
 use lib.ListN.{length, getD, take, drop, set, drop-of-length-le, length-append, length-take, length-drop, List·getD-eq-default}
-use lib.Seq.{drop-cons, take-suc-set}
+use lib.Seq.{drop-cons, length-take-le, take-suc-set}
 use borrow.Author.Tests.{eq-eqb, ne-eqb}
 use Rattle.lists.specs.Search.{elem, firstFrom}
 use Rattle.lists.specs.SearchLaws.{first-found, finds-passing, search-hit, search-next, search-end}
@@ -19,7 +19,8 @@ use Rattle.lists.specs.FillLaws.{padded-length, padded-append}
 use Rattle.lists.specs.ListLaws.{elem-cons, elem-nil, elem-at, elem-place, at-place}
 use Rattle.rules.specs.Table.{nextHop, pathAt}
 use Rattle.rules.specs.Greedy.{fromVertex, beforeVertex, closedPart, lowestOf, turned, ringFrom}
-use Rattle.ring.specs.Ring.{ringIn, nextIn, lowestMarked}
+use Rattle.rules.specs.RingLaws.{from-place}
+use Rattle.ring.specs.Ring.{ringIn, nextIn, lowestMarked, ClosedAt}
 
 -- whom v follows, with a record of its own and without
 module _ (T B : List ℕ) (v r : ℕ) where
@@ -123,7 +124,7 @@ module _ (next : ℕ → ℕ) (size : ℕ) (seen : List ℕ) (n v : ℕ) (r : Li
     fuel = omega arith
 
     first-length : length (take n seen) ≡ n
-    first-length = length-take n seen ∙ omega arith
+    first-length = length-take-le n seen (omega arith)
 
     pub walk-closes : k < n → take (n - k) (drop k seen) ≡ r
     unfolding closedPart
@@ -192,10 +193,7 @@ pub place-first : (v : ℕ) (l : List ℕ) (k : ℕ)
     → getD l k 0 ≡ v
     → ((j : ℕ) → j < k → getD l j 0 ≢ v)
     → placeIn v l ≡ k
-place-first v [] k h e f = absurd (not-suc-le-zero h)
-place-first v (x ∷ l) zero h e f = rw (before-here v x l (sym e))
-place-first v (x ∷ l) (suc k) h e f =
-    rw (before-later v x l (λ z. f 0 (omega arith) (sym z))) (ap suc (place-first v l k (omega arith) e (λ j a. f (suc j) (omega arith))))
+place-first v l k h e f = ap length (from-place v l k h e f .1) ∙ length-take-le k l (omega arith)
 
 module _ (l : List ℕ) (i low place : ℕ) (p : Lowest l i low place) (whole : i ≡ length l) where
   -- a number below the lowest does not stand in the list
@@ -302,13 +300,12 @@ module _ (S : List Bool) where
 
     pub writes-ring : (n from to : ℕ) (seen written : List ℕ)
         → s ≢ 64
-        → from ≤ to
-        → to ≤ length seen
-        → take (to - from) (drop from seen) ≡ closedPart (nextIn T B) 65 [] s
+        → ClosedAt (nextIn T B) 65 s seen from to
+        → length seen ≡ 65
         → written ≡ padded n 255 (turned (take (to - from) (drop from seen)))
         → (to - from ≡ length (ringIn T S B)) × (written ≡ padded n 255 (ringIn T S B))
-    writes-ring n from to seen written f g h e q =
+    writes-ring n from to seen written f c long q =
         let part = take (to - from) (drop from seen) in
-        let is : ringIn T S B ≡ turned part = ring-walked f ∙ ap turned (sym e) in
+        let is : ringIn T S B ≡ turned part = ring-walked f ∙ ap turned (sym (c .part)) in
         let count : length part ≡ to - from = length-take (to - from) (drop from seen) ∙ omega (arith, length-drop from seen) in
         (sym (ap length is ∙ turned-length part ∙ count), q ∙ ap (padded n 255) (sym is))

@@ -1,12 +1,10 @@
 // The ring of the stuck vertices, for any bytes and marks: whom each follows is told by the record of its best compatible path.
 ghost use mathlib.Core.Path.{_≡_};
 ghost use mathlib.Core.Bool.{false};
-ghost use mathlib.Core.List.{[]};
-ghost use Prim.Native.Nat.{_≤_, _-_};
-ghost use lib.ListN.{drop, getD, length, take};
+ghost use lib.ListN.{getD, length};
 ghost use Rattle.lists.specs.Fill.{padded};
-ghost use Rattle.rules.specs.Greedy.{beforeVertex, closedPart, lowestOf, turned};
-ghost use Rattle.ring.specs.Ring.{lowestMarked, nextIn, ringIn};
+ghost use Rattle.rules.specs.Greedy.{beforeVertex, lowestOf, turned};
+ghost use Rattle.ring.specs.Ring.{ClosedAt, lowestMarked, nextIn, ringIn};
 use parts::at_most;
 use parts::fill_padded;
 use record::next_at;
@@ -67,8 +65,7 @@ struct Closed {
 
 // Follows from the start until a vertex repeats, and keeps the vertices walked; where they fill the buffer, the closed part is empty.
 fn walk(t: &[u8], best: &[u16], start: u8, seen: &mut [u8]) -> Closed
-    ensures within { λ r. ⌜ (r .from ≤ r .to) × (r .to ≤ length (now (seen .entry))) ⌝ }
-    ensures closed { λ r. ⌜ take (r .to - r .from) (drop (r .from) (now (seen .exit))) ≡ closedPart (nextIn (now (t .entry)) (now (best .entry))) (length (now (seen .entry))) [] start ⌝ }
+    ensures { λ r. ⌜ ClosedAt (nextIn (now (t .entry)) (now (best .entry))) (length (now (seen .entry))) start (now (seen .exit)) (r .from) (r .to) ⌝ }
 {
     let mut v = start;
     let mut n = 0;

@@ -94,7 +94,7 @@ module _ (paths : ℕ → List Path) (present : ℕ → Bool) where
       stuck-moves e = twice-apart _ (stuck-best .0 .simple) 0 1 (omega arith) (stuck-best .0 .long) (stuck-best .0 .owner ∙ sym e)
 
 -- the place of a vertex parts a list
-from-place : (v : ℕ) (l : List ℕ) (k : ℕ)
+pub from-place : (v : ℕ) (l : List ℕ) (k : ℕ)
     → k < length l
     → getD l k 0 ≡ v
     → ((j : ℕ) → j < k → getD l j 0 ≢ v)

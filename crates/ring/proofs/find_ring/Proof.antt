@@ -58,10 +58,8 @@ returns-2 : tie.Need-returns-2
 returns-2 c =
     let w = c .before .before in
     let k = w .before .before .before .before .before in
-    let e = k .walk .ensures in
     let low = k .before .before in
-    writes-ring _ _ _ _ (low .before .lowest-marked .ensures) _ _ _ _ _ (low .if1 .left) (e .0 .0) (omega arith) (e .1)
-    (w .write-turned .ensures)
+    writes-ring _ _ _ _ (low .before .lowest-marked .ensures) _ _ _ _ _ (low .if1 .left) (k .walk .ensures) (omega arith) (w .write-turned .ensures)
 
 pub find-ring-spec : {M : Type 1} → statement M
 find-ring-spec =

@@ -39,10 +39,12 @@ same-length c = c .before .before .before .before .loop .inv .1
 returns : tie.Need-returns Inv-loop μ-loop
 returns c =
     let a = c .before .before .before .before in
-    let p = c .before .place-of in (
-      (omega arith, omega arith),
-      walk-closes _ _ _ (a .loop .n) _ _ (a .loop .inv .2) (omega arith) (a .loop .inv .1) _ (p .ensures) (c .if1 .taken),
-    )
+    let p = c .before .place-of in
+    record {
+      order = omega arith;
+      within = omega arith;
+      part = walk-closes _ _ _ (a .loop .n) _ _ (a .loop .inv .2) (omega arith) (a .loop .inv .1) _ (p .ensures) (c .if1 .taken);
+    }
 
 slice-write-seen : tie.Need-slice-write-seen Inv-loop μ-loop
 slice-write-seen c = omega arith
@@ -69,7 +71,12 @@ same-length-2 : tie.Need-same-length-2 Inv-loop μ-loop
 same-length-2 c = c .before .loop .inv .1
 
 returns-2 : tie.Need-returns-2 Inv-loop μ-loop
-returns-2 c = ((omega arith, omega arith), walk-ends _ _ _ (c .before .loop .n) _ _ (c .before .loop .inv .2) (omega arith))
+returns-2 c =
+    record {
+      order = omega arith;
+      within = omega arith;
+      part = walk-ends _ _ _ (c .before .loop .n) _ _ (c .before .loop .inv .2) (omega arith);
+    }
 
 pub walk-spec : {M : Type 1} → statement M
 walk-spec =
