@@ -41,3 +41,9 @@ pub record Waits (t : List ℕ) (k : ℕ) (shown : List ℕ) : Type 0 where
       → present t v ≡ true
       → settled (pathsOf t) (present t) k v ≡ none
       → pathAt t (getD shown v 65535) ≡ best (pathsOf t) (settled (pathsOf t) (present t) k) v
+
+-- what the check has where its stages have ended
+pub record Ended (t marks shown : List ℕ) (stages : ℕ) : Type 0 where
+  pub counted : stages ≡ stageCount (pathsOf t) (present t)
+  pub stands : Stands t (stageCount (pathsOf t) (present t)) marks shown
+  pub waits : Waits t (stageCount (pathsOf t) (present t)) shown

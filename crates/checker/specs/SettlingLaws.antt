@@ -6,6 +6,7 @@ use mathlib.Core.List.{List, [], _∷_, map}
 use mathlib.Core.Option.{Option, none, some}
 use Prim.Native.Nat.{ℕ, zero, suc, _+_, _-_, _*_, _<_, _≤_, min}
 use native.Mathlib.Omega.{arith}
+use native.Mathlib.Numerals.{add-one}
 use lib.ListN.{length, getD, replicate, length-replicate, List·getD-eq-default}
 use lib.Dec.{eqb, ltb}
 use borrow.Author.Tests.{eq-eqb, ne-eqb, lt-ltb, le-ltb, not-true}
@@ -21,12 +22,13 @@ use Rattle.rules.specs.ShapeLaws.{shaped, path-length}
 use Rattle.rules.specs.Blocks.{here, owned-length, owned-at, paths-length}
 use Rattle.rules.specs.TableLaws.{record-past, path-short}
 use Rattle.rules.specs.GreedyLaws.{is-none, is-some, judged-path, settled-zero, settled-suc, settled-out, settled-stays, settled-origin, settled-present, stage-absent, stage-judges, stages-most, settled-end, stages-busy, stages-quiet, quiet-stage, quiet-none, busy-some, enters-counted, stage-entered}
-use Rattle.lists.specs.Search.{firstFrom, anyBelow}
+use Rattle.lists.specs.Search.{firstFrom, same}
+use Rattle.lists.specs.ListLaws.{same-eq, differs}
 use Rattle.lists.specs.SearchLaws.{first-found, first-hit}
 use Rattle.judge.specs.Standing.{isIn, heldPath, settledBy, firstRecord, bestRecord, entersWith, isJudged, shownAfter, markAfter}
 use Rattle.judge.specs.StandingLaws.{holds-origin, holds-record, holds-same, in-settled, out-unsettled, settled-holds}
 use Rattle.judge.specs.SlotLaws.{Filled, record-padded, record-among, record-path}
-use Rattle.checker.specs.Settling.{markAt, startMark, Own, Stands, Waits}
+use Rattle.checker.specs.Settling.{markAt, startMark, Own, Stands, Waits, Ended}
 
 -- the record of no path
 
@@ -391,6 +393,24 @@ module _ (t : List ℕ) (e : refusal t ≡ none) (k : ℕ) (marks shown : List �
 
 -- before the first stage
 
+module _ (named : ℕ → Bool) (v : ℕ) where
+  pub start-origin : v ≡ 0 → 0 ≡ startMark named v
+  unfolding startMark
+  start-origin q = rw (eq-eqb v 0 q, startMark)
+
+  pub start-present : v ≢ 0 → named v ≡ true → 255 ≡ startMark named v
+  unfolding startMark
+  start-present f a = rw (ne-eqb v 0 f, a, startMark)
+
+  pub start-absent : v ≢ 0 → named v ≡ false → 254 ≡ startMark named v
+  unfolding startMark
+  start-absent f a = rw (ne-eqb v 0 f, a, startMark)
+
+-- it depends on whether the vertex itself is present
+pub start-same : (f g : ℕ → Bool) (v : ℕ) → f v ≡ g v → startMark f v ≡ startMark g v
+unfolding startMark
+start-same f g v e = by-equal v 0 (λ q. rw (eq-eqb v 0 q, startMark)) (λ q. rw (ne-eqb v 0 q, e, startMark))
+
 -- vertex 0 settled at stage 0
 pub stage-origin : (t : List ℕ) → stageOf (pathsOf t) (present t) 0 ≡ 0
 unfolding stageOf isSettled
@@ -406,28 +426,16 @@ module _ (t : List ℕ) (e : refusal t ≡ none) where
       (λ h. settled-zero (pathsOf t) (present t) v h ∙ rw (ne-eqb v 0 f, atStart))
       (λ h. settled-out (pathsOf t) (present t) 0 v h)
 
-  start-origin : (v : ℕ) → v ≡ 0 → startMark (present t) v ≡ 0
-  unfolding startMark
-  start-origin v q = rw (eq-eqb v 0 q, startMark)
-
-  start-present : (v : ℕ) → v ≢ 0 → present t v ≡ true → startMark (present t) v ≡ 255
-  unfolding startMark
-  start-present v f a = rw (ne-eqb v 0 f, a, startMark)
-
-  start-absent : (v : ℕ) → v ≢ 0 → present t v ≡ false → startMark (present t) v ≡ 254
-  unfolding startMark
-  start-absent v f a = rw (ne-eqb v 0 f, a, startMark)
-
   start-mark : (v : ℕ) → startMark (present t) v ≡ markAt t 0 v
   start-mark v =
       by-equal v 0
-      (λ q. start-origin v q ∙ sym (rw q (mark-settled t 0 0 _ (shaped t e .origin) (settled-origin (pathsOf t) (present t) 0) ∙ stage-origin t)))
+      (λ q. sym (start-origin (present t) v q) ∙ sym (rw q (mark-settled t 0 0 _ (shaped t e .origin) (settled-origin (pathsOf t) (present t) 0) ∙ stage-origin t)))
       (λ q. by-test (present t v)
-      (λ a. start-present v q a ∙ sym (mark-waits t 0 v a (start-none v q)))
-      (λ a. start-absent v q a ∙ sym (mark-absent t 0 v a)))
+      (λ a. sym (start-present (present t) v q a) ∙ sym (mark-waits t 0 v a (start-none v q)))
+      (λ a. sym (start-absent (present t) v q a) ∙ sym (mark-absent t 0 v a)))
 
   start-high : (v : ℕ) → v ≢ 0 → 254 ≤ startMark (present t) v
-  start-high v f = by-test (present t v) (λ a. omega (arith, start-present v f a)) (λ a. omega (arith, start-absent v f a))
+  start-high v f = by-test (present t v) (λ a. omega (arith, start-present (present t) v f a)) (λ a. omega (arith, start-absent (present t) v f a))
 
   abbrev firstMarks : List ℕ
   firstMarks = tabulate (startMark (present t)) 64
@@ -435,7 +443,7 @@ module _ (t : List ℕ) (e : refusal t ≡ none) where
   start-in : (v : ℕ) → v ≡ 0 → isIn firstMarks v ≡ true
   unfolding isIn
   start-in v q =
-      lt-ltb (getD firstMarks v 255) 254 (omega (arith, tabulate-at (startMark (present t)) 64 v 255 (omega arith), start-origin v q))
+      lt-ltb (getD firstMarks v 255) 254 (omega (arith, tabulate-at (startMark (present t)) 64 v 255 (omega arith), start-origin (present t) v q))
 
   start-out : (v : ℕ) → v ≢ 0 → isIn firstMarks v ≡ false
   unfolding isIn
@@ -479,29 +487,46 @@ stands-end t marks shown st =
       own = st .own;
     }
 
--- what the check has where its stages have ended
-pub record Ended (t marks shown : List ℕ) (stages : ℕ) : Type 0 where
-  pub counted : stages ≡ stageCount (pathsOf t) (present t)
-  pub stands : Stands t (stageCount (pathsOf t) (present t)) marks shown
-  pub waits : Waits t (stageCount (pathsOf t) (present t)) shown
+-- the steps of the loop over the stages
 
--- a stage that changes no mark ends them
-pub ended : (t : List ℕ) (e : refusal t ≡ none) (k : ℕ) (marks shown : List ℕ)
-    → Stands t k marks shown
-    → (slots : List (List ℕ))
-    → slots ≡ slotsOf t (min (records t) 1008)
-    → k ≤ stageCount (pathsOf t) (present t)
-    → (marksNext shownNext : List ℕ)
-    → marksNext ≡ tabulate (markAfter t slots marks shown (suc k)) 64
-    → shownNext ≡ tabulate (shownAfter t slots marks shown) 64
-    → marks ≡ marksNext
-    → Ended t marksNext shownNext k
-ended t e k marks shown st slots s m marksNext shownNext a b q =
-    let c = same-counted t e k marks shown st slots s m (q ∙ a) in
-    let n = stands-next t e k marks shown st slots s m in
-    let w = waits-next t e k marks shown st slots s m in
-    record {
-      counted = c;
-      stands = stands-end t marksNext shownNext (rw (← c, a, b) n);
-      waits = rw (← c, b) w;
-    }
+module _ (t : List ℕ) (e : refusal t ≡ none) where
+  -- it starts with the marks at the start
+  pub settle-start : (named : List Bool) (marks : List ℕ)
+      → named ≡ tabulate (present t) 64
+      → marks ≡ tabulate (startMark (λ v. getD named v false)) 64
+      → Stands t 0 marks (replicate 64 65535)
+  settle-start named marks a b =
+      let f : ℕ → Bool = λ v. getD named v false in
+      let g : (v : ℕ) → v < 64 → f v ≡ present t v
+      = λ v h. ap (λ (l : List Bool). getD l v false) a ∙ tabulate-at (present t) 64 v false h in
+      let begun : marks ≡ tabulate (startMark (present t)) 64
+      = b ∙ tabulate-ext (startMark f) (startMark (present t)) 64 (λ v h. start-same f (present t) v (g v h)) in
+      rw begun (stands-start t e)
+
+  module _ (k : ℕ) (marks shown : List ℕ) (st : Stands t k marks shown) (slots : List (List ℕ)) (s : slots ≡ slotsOf t (min (records t) 1008))
+      (m : k ≤ stageCount (pathsOf t) (present t)) (marksNext shownNext : List ℕ)
+      (a : marksNext ≡ tabulate (markAfter t slots marks shown (k + 1)) 64) (b : shownNext ≡ tabulate (shownAfter t slots marks shown) 64)
+      (x : Bool) (look : x ≡ same marks marksNext) where
+    following : marksNext ≡ tabulate (markAfter t slots marks shown (suc k)) 64
+    following = rw add-one at a
+
+    -- it goes on while a stage changes a mark
+    pub settle-more : x ≡ false → (k + 1 ≤ stageCount (pathsOf t) (present t)) × Stands t (k + 1) marksNext shownNext
+    settle-more q =
+        let other : marks ≡ tabulate (markAfter t slots marks shown (suc k)) 64 → ⊥
+        = λ z. differs marks marksNext (sym look ∙ q) (z ∙ sym following) in
+        let n = stands-next t e k marks shown st slots s m in
+        (rw add-one (other-counted t e k marks shown st slots s m other), rw (add-one, following, b) n)
+
+    -- and has ended where one changes none
+    pub settle-end : x ≡ true → Ended t marksNext shownNext k
+    settle-end q =
+        let unchanged : marks ≡ tabulate (markAfter t slots marks shown (suc k)) 64 = same-eq marks marksNext (sym look ∙ q) ∙ following in
+        let c = same-counted t e k marks shown st slots s m unchanged in
+        let n = stands-next t e k marks shown st slots s m in
+        let w = waits-next t e k marks shown st slots s m in
+        record {
+          counted = c;
+          stands = stands-end t marksNext shownNext (rw (← c, following, b) n);
+          waits = rw (← c, b) w;
+        }

@@ -21,13 +21,13 @@ pub(crate) struct Settling {
 }
 
 // The mark of a vertex before the first stage.
-fn start_mark(v: usize, is_present: bool) -> u8
-    ensures { λ r. ⌜ r ≡ startMark (λ u. is_present) v ⌝ }
+fn start_mark(v: usize, named: bool) -> u8
+    ensures { λ r. ⌜ r ≡ startMark (λ u. named) v ⌝ }
 {
     if v == 0 {
         return 0;
     }
-    if is_present {
+    if named {
         return 255;
     }
     254

@@ -1,54 +1,59 @@
+-- `checker::counts::count_between` meets its contract: the count of the vertices below v.
+-- Assumes nothing.
+use mathlib.Core.Path.{_≡_}
+use Prim.Native.Nat.{_≤_, _-_}
+use native.Mathlib.Omega.{arith}
+use Rattle.lists.specs.Search.{countBelow}
+use Rattle.checker.specs.Rows.{isBetween, countBetween}
+use Rattle.checker.specs.RowLaws.{count-none, count-skip, count-more, count-small}
 use Rattle.checker.proofs.counts.count_between.Statement.{statement}
 use Rattle.checker.proofs.counts.count_between.Tie as tie
-use Rattle.checker.proofs.counts.count_between.Reads as reads
-use Rattle.checker.proofs.counts.count_between.Lts as lts
-use Rattle.parts.proofs.is_outside.Reads as is-outside-reads
 
 abbrev Inv-loop : tie.InvT-loop
-Inv-loop low high marks count₀ v₀ count v = ?
+Inv-loop low high marks count₀ v₀ count v = (1 ≤ v) × (v ≤ 64) × (count ≡ countBelow (isBetween low high marks) v)
 
 abbrev μ-loop : tie.MeasureT-loop
-μ-loop low high marks count₀ v₀ count v = ?
+μ-loop low high marks count₀ v₀ count v = 64 - v
 
--- src/counts.rt:30:5
 loop-holds : tie.Need-loop-holds Inv-loop μ-loop
-loop-holds c = ?
+loop-holds c = (omega arith, omega arith, count-none _ _ _)
 
--- src/counts.rt:32:9
 add-v : tie.Need-add-v Inv-loop μ-loop
-add-v c = ?
+add-v c = omega arith
 
--- src/counts.rt:33:34
 shared-slice-read-is-outside : tie.Need-shared-slice-read-is-outside Inv-loop μ-loop
-shared-slice-read-is-outside c = ?
+shared-slice-read-is-outside c = omega arith
 
--- src/counts.rt:33:12
 is-outside-requires : tie.Need-is-outside-requires Inv-loop μ-loop
-is-outside-requires c κs = ?
+is-outside-requires c κs = omega arith
 
--- src/counts.rt:30:5
 loop-less : tie.Need-loop-less Inv-loop μ-loop
-loop-less c = ?
+loop-less c = omega arith
 
--- src/counts.rt:30:5
 loop-again : tie.Need-loop-again Inv-loop μ-loop
-loop-again c = ?
+loop-again c =
+    let a = c .before .before .before .before in
+    (omega arith, omega arith, count-skip _ _ _ (a .loop .v) _ (a .before .before .pre) (a .loop .inv .0) (c .before .before .before .loop-test .taken) (a .loop .inv .2) _ (c .before .is-outside .ensures) (c .if1 .taken))
 
--- src/counts.rt:36:9
 add-count : tie.Need-add-count Inv-loop μ-loop
-add-count c = ?
+add-count c =
+    let a = c .before .before .before .before in
+    omega (arith, count-small _ _ _ (a .loop .v) _ (a .loop .inv .2))
 
--- src/counts.rt:30:5
 loop-less-2 : tie.Need-loop-less-2 Inv-loop μ-loop
-loop-less-2 c = ?
+loop-less-2 c = omega arith
 
--- src/counts.rt:30:5
 loop-again-2 : tie.Need-loop-again-2 Inv-loop μ-loop
-loop-again-2 c = ?
+loop-again-2 c =
+    let a = c .before .before .before .before in
+    (omega arith, omega arith, count-more _ _ _ (a .loop .v) _ (a .before .before .pre) (a .loop .inv .0) (c .before .before .before .loop-test .taken) (a .loop .inv .2) _ (c .before .is-outside .ensures) (c .if1 .left))
 
--- src/counts.rt:24:1
 returns : tie.Need-returns Inv-loop μ-loop
-returns c = ?
+unfolding countBetween
+returns c =
+    let a = c .before in
+    let e : a .loop .v ≡ 64 = omega arith in
+    rw (← e) (a .loop .inv .2)
 
 pub count-between-spec : {M : Type 1} → statement M
 count-between-spec =

@@ -1,41 +1,50 @@
+-- `checker::counts::stuck_in` meets its contract: below v stand the marks of the stuck.
+-- Assumes nothing.
+use mathlib.Core.Path.{_≡_, refl, sym, ap, _∙_}
+use mathlib.Core.Bool.{false}
+use Prim.Native.Nat.{ℕ, _≤_, _-_}
+use native.Mathlib.Omega.{arith}
+use lib.ListN.{length, getD, take, length-set, length-replicate}
+use lib.Dec.{eqb}
+use Rattle.lists.specs.Fill.{tabulate}
+use Rattle.lists.specs.FillLaws.{tabulate-none, fill-more, fill-end}
+use Rattle.lists.specs.ListLaws.{getD-within}
+use Rattle.judge.specs.Standing.{isJudged}
 use Rattle.checker.proofs.counts.stuck_in.Statement.{statement}
 use Rattle.checker.proofs.counts.stuck_in.Tie as tie
-use Rattle.checker.proofs.counts.stuck_in.Reads as reads
-use Rattle.checker.proofs.counts.stuck_in.Lts as lts
 
 abbrev Inv-loop : tie.InvT-loop
-Inv-loop marks stuck₀ v₀ stuck v = ?
+Inv-loop marks stuck₀ v₀ stuck v = (v ≤ 64) × (length stuck ≡ 64) × (take v stuck ≡ tabulate (isJudged marks) v)
 
 abbrev μ-loop : tie.MeasureT-loop
-μ-loop marks stuck₀ v₀ stuck v = ?
+μ-loop marks stuck₀ v₀ stuck v = 64 - v
 
--- src/counts.rt:16:5
 loop-holds : tie.Need-loop-holds Inv-loop μ-loop
-loop-holds c = ?
+loop-holds c = (omega arith, length-replicate 64 false, sym (tabulate-none _))
 
--- src/counts.rt:17:20
 shared-slice-read-stuck : tie.Need-shared-slice-read-stuck Inv-loop μ-loop
-shared-slice-read-stuck c = ?
+shared-slice-read-stuck c = omega arith
 
--- src/counts.rt:17:9
 array-write-stuck : tie.Need-array-write-stuck Inv-loop μ-loop
-array-write-stuck c = ?
+array-write-stuck c = omega arith
 
--- src/counts.rt:18:9
 add-v : tie.Need-add-v Inv-loop μ-loop
-add-v c = ?
+add-v c = omega arith
 
--- src/counts.rt:16:5
 loop-less : tie.Need-loop-less Inv-loop μ-loop
-loop-less c = ?
+loop-less c = omega arith
 
--- src/counts.rt:16:5
 loop-again : tie.Need-loop-again Inv-loop μ-loop
-loop-again c = ?
+unfolding isJudged
+loop-again c =
+    let a = c .before .before in (
+      omega arith,
+      length-set (a .loop .stuck) (a .loop .v) _ ∙ a .loop .inv .1,
+      fill-more _ _ _ (a .loop .v) _ (a .loop .inv .2) (omega arith) refl (ap (λ (m : ℕ). eqb m 255) (getD-within (a .before .args .marks .now) (a .loop .v) 0 254 (omega arith))),
+    )
 
--- src/counts.rt:10:1
 returns : tie.Need-returns Inv-loop μ-loop
-returns c = ?
+returns c = fill-end _ _ _ _ (c .before .loop .inv .2) (sym (c .before .loop .inv .1)) (omega arith)
 
 pub stuck-in-spec : {M : Type 1} → statement M
 stuck-in-spec =
