@@ -3,3 +3,6 @@ pub mod Settling
 pub mod SettlingLaws
 pub mod Rows
 pub mod RowLaws
+pub mod Reported
+pub mod ReportedLaws
+pub mod Checked

@@ -15,9 +15,9 @@ use parts::same_parts;
 
 // The marks and records after the last stage, and how many stages counted.
 pub(crate) struct Settling {
-    marks: [u8; 64],
-    shown: [u16; 64],
-    stages: u8,
+    pub(crate) marks: [u8; 64],
+    pub(crate) shown: [u16; 64],
+    pub(crate) stages: u8,
 }
 
 // The mark of a vertex before the first stage.

@@ -123,6 +123,11 @@ module _ {A : Type 0} (f : ℕ → List A) where
         (take-append-le size (drop (size * i) (blocks f n)) (f n) (rw (length-drop (size * i) (blocks f n)) (omega arith))
         ∙ blocks-at n i l))
 
+pub blocks-ext : {A : Type 0} (f g : ℕ → List A) (n : ℕ) → ((i : ℕ) → i < n → f i ≡ g i) → blocks f n ≡ blocks g n
+unfolding blocks
+blocks-ext f g zero e = refl
+blocks-ext f g (suc n) e = rw (blocks-ext f g n (λ i h. e i (omega arith)), e n (omega arith))
+
 -- every place of a list of one element has it, past the end too where that is the default
 pub alike-at : {A : Type 0} (n i : ℕ) (x : A) → getD (replicate n x) i x ≡ x
 alike-at zero i x = refl

@@ -57,11 +57,11 @@ module _ (paths : ℕ → List Path) (present : ℕ → Bool) where
 
   module _ (shaped : Shaped paths present) where
     module _ (v : ℕ) (s : isStuck v ≡ true) where
-      stuck-present : present v ≡ true
+      pub stuck-present : present v ≡ true
       unfolding stuckIn
       stuck-present = and-parts (present v) _ s .0
 
-      stuck-unsettled : final v ≡ none
+      pub stuck-unsettled : final v ≡ none
       unfolding stuckIn
       stuck-unsettled = is-none _ (not-true _ (and-parts (present v) _ s .1))
 

@@ -1,0 +1,71 @@
+-- `checker::check` meets its contract: each way through the check has its refusal, or the report.
+-- Assumes nothing.
+use mathlib.Core.Path.{sym, _∙_}
+use borrow.Author.Needs.{needs}
+use Rattle.checker.specs.Checked.{refused-rows, refused-ring, refused-table, checked-refused, checked-accepted, reading-accepted, reading-refused}
+use Rattle.checker.proofs.check.Statement.{statement}
+use Rattle.checker.proofs.check.Tie as tie
+
+refused-requires : tie.Need-refused-requires
+refused-requires c κs = search needs
+
+returns : tie.Need-returns
+returns c = checked-refused _ _ _ 1 0 _ (refused-rows _ _ _ (c .before .if1 .taken)) (c .refused .ensures)
+
+refused-requires-2 : tie.Need-refused-requires-2
+refused-requires-2 c κs = search needs
+
+returns-2 : tie.Need-returns-2
+returns-2 c = checked-refused _ _ _ 1 0 _ (refused-ring _ _ _ (c .before .if2 .taken)) (c .refused2 .ensures)
+
+read-requires : tie.Need-read-requires
+read-requires c κs = search needs
+
+enum-known-reading : tie.Need-enum-known-reading
+enum-known-reading c = search needs
+
+enum-told : tie.Need-enum-told
+enum-told c = search needs
+
+check-accepted-requires : tie.Need-check-accepted-requires
+check-accepted-requires c κs = (reading-accepted _ (sym (c .before .before .enum-told .given .1) ∙ c .before .before .before .before .read .ensures), c .before .before .before .before .before .before .if1 .left, c .before .before .before .before .before .if2 .left)
+
+same-length : tie.Need-same-length
+same-length c = search needs
+
+same-length-2 : tie.Need-same-length-2
+same-length-2 c = search needs
+
+returns-3 : tie.Need-returns-3
+returns-3 c =
+    let a = c .before .before .before .before .check-accepted .ensures in
+    checked-accepted _ _ _ _ _ _ (refused-table _ _ _ (c .before .before .before .before .before .before .before .before .before .before .before .if1 .left) (c .before .before .before .before .before .before .before .before .before .before .if2 .left) ∙ reading-accepted _ (sym (c .before .before .before .before .before .before .before .enum-told .given .1) ∙ c .before .before .before .before .before .before .before .before .before .read .ensures)) (a .0) (a .1 .0) (a .1 .1 .0) (a .1 .1 .1)
+
+refused-requires-3 : tie.Need-refused-requires-3
+refused-requires-3 c κs = search needs
+
+returns-4 : tie.Need-returns-4
+returns-4 c =
+    let a = c .before .before .before .before in
+    checked-refused _ _ _ _ _ _
+    (refused-table _ _ _ (a .before .before .if1 .left) (a .before .if2 .left)
+    ∙ reading-refused _ _ _ (sym (c .before .before .reading .given .1) ∙ a .read .ensures))
+    (c .refused3 .ensures)
+
+pub check-spec : {M : Type 1} → statement M
+check-spec =
+    tie.close
+    (tie.spec
+    refused-requires
+    returns
+    refused-requires-2
+    returns-2
+    read-requires
+    enum-known-reading
+    enum-told
+    check-accepted-requires
+    same-length
+    same-length-2
+    returns-3
+    refused-requires-3
+    returns-4)
