@@ -49,13 +49,13 @@ fn agrees(t: &[u8], shown: &[u16], v: usize, rest: &[u8]) -> bool
 pub fn is_compatible(t: &[u8], marks: &[u8], shown: &[u16], path: &[u8]) -> bool
     ensures { λ r. ⌜ r ≡ compatible (settledBy (now (t .entry)) (now (marks .entry)) (now (shown .entry))) (now (path .entry)) ⌝ }
 {
-    let mut k = 0;
-    while k < path.len() {
-        let v = path[k] as usize;
+    let mut hop = 0;
+    while hop < path.len() {
+        let v = path[hop] as usize;
         if is_settled(marks, v) {
-            return agrees(t, shown, v, &path[k..]);
+            return agrees(t, shown, v, &path[hop..]);
         }
-        k += 1;
+        hop += 1;
     }
     false
 }

@@ -1,4 +1,4 @@
--- `judge::is_compatible` meets its contract: what is left of the path from k on tells the answer.
+-- `judge::is_compatible` meets its contract: what is left of the path from that hop on tells the answer.
 -- Assumes nothing.
 use mathlib.Core.Path.{_≡_, refl, sym}
 use Prim.Native.Nat.{_≤_, _-_}
@@ -11,10 +11,10 @@ use Rattle.judge.proofs.is_compatible.Statement.{statement}
 use Rattle.judge.proofs.is_compatible.Tie as tie
 
 abbrev Inv-loop : tie.InvT-loop
-Inv-loop t marks shown path k₀ k = (k ≤ length path) × (compatible (settledBy t marks shown) (drop k path) ≡ compatible (settledBy t marks shown) path)
+Inv-loop t marks shown path hop₀ hop = (hop ≤ length path) × (compatible (settledBy t marks shown) (drop hop path) ≡ compatible (settledBy t marks shown) path)
 
 abbrev μ-loop : tie.MeasureT-loop
-μ-loop t marks shown path k₀ k = length path - k
+μ-loop t marks shown path hop₀ hop = length path - hop
 
 loop-holds : tie.Need-loop-holds Inv-loop μ-loop
 loop-holds c = (omega arith, refl)
@@ -23,7 +23,7 @@ shared-slice-read-v : tie.Need-shared-slice-read-v Inv-loop μ-loop
 shared-slice-read-v c = omega arith
 
 cast-v : tie.Need-cast-v Inv-loop μ-loop
-cast-v c = omega (arith, c .shared-slice-known5 .given (c .before .before .loop .k))
+cast-v c = omega (arith, c .shared-slice-known5 .given (c .before .before .loop .hop))
 
 is-settled-requires : tie.Need-is-settled-requires Inv-loop μ-loop
 is-settled-requires c κs = omega arith
@@ -46,8 +46,8 @@ returns c =
     compatible-hit _ _ _ _ _ (a .before .loop .inv .1) (a .loop-test .taken) _ (c .before .before .before .is-settled .ensures) _ (c .before .before .if1 .taken)
     (c .agrees .ensures)
 
-add-k : tie.Need-add-k Inv-loop μ-loop
-add-k c = omega arith
+add-hop : tie.Need-add-hop Inv-loop μ-loop
+add-hop c = omega arith
 
 loop-less : tie.Need-loop-less Inv-loop μ-loop
 loop-less c = omega arith
@@ -75,7 +75,7 @@ is-compatible-spec =
     part-agrees-end
     agrees-requires
     returns
-    add-k
+    add-hop
     loop-less
     loop-again
     returns-2)
