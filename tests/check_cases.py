@@ -112,6 +112,38 @@ def twelve_hops(rng):
     return Case(table(paths), {"code": "0", "longest": "12"})
 
 
+def one_off(rng):
+    """A line of vertices, and others whose path's rest is that of the line's head, or differs in one place.
+
+    These come to that path only after the head has settled, since one by a later vertex keeps them waiting before. Some
+    of the paths go by a vertex that is stuck, so that the first settled vertex is not the next hop.
+    """
+    vertices = rng.sample(OWNERS, 20)
+    line = vertices[: rng.choice([rng.randint(2, MOST_HOPS - 2), MOST_HOPS - 1])]
+    late, one, other, stranger, *rest = vertices[len(line) :]
+    paths = {v: [(*line[at::-1], 0)] for at, v in enumerate(line)}
+    paths |= {late: [(late, *line[::-1], 0)], stranger: [(stranger, 0)]}
+    paths |= {one: [(one, other, 0), (one, 0)], other: [(other, one, 0), (other, 0)]}
+    for v in rest:
+        by = [one] if len(line) < MOST_HOPS - 1 and rng.random() < 0.5 else []
+        paths[v] = [(v, late, 0), (v, *by, *changed(rng, line[::-1], stranger), 0), (v, 0)]
+    return Case(table(paths), ACCEPTED)
+
+
+def changed(rng, line, stranger):
+    """A line behind its head: one vertex replaced, two swapped, one left out, or as it was."""
+    line = list(line)
+    at = rng.randrange(1, len(line))
+    match rng.randrange(4):
+        case 0:
+            line[at] = stranger
+        case 1:
+            line[at - 1 : at + 1] = line[at - 1 : at + 1][:: 1 if at == 1 else -1]
+        case 2:
+            del line[at]
+    return line
+
+
 # ---- rings
 
 
@@ -246,6 +278,7 @@ KINDS = {
     "small_grown": (each(small_grown), 500),
     "silent": (each(silent), 200),
     "twelve_hops": (each(twelve_hops), 100),
+    "one_off": (each(one_off), 150),
     "rings": (each(rings), 200),
     "lowest_outside": (each(lowest_outside), 100),
     "deep": (each(deep), 60),

@@ -16,6 +16,8 @@ ROOT = test_samples.ROOT
 SECOND = test_samples.SECOND
 BUILT = ROOT / ".build" / "probe"
 SEED = os.environ.get("REEFSPLICE_SEED", "1")
+ENDED = "ended with status 0"
+LONGEST_RUN = 20  # seconds for one run over the cases of a kind, which takes less than one
 
 
 def build(words):
@@ -41,10 +43,13 @@ def build_driver(place, *sources, flags=()):
 
 
 def run(words, cases):
-    """A program's exit status and its lines."""
+    """How a program ended, and its lines."""
     lines = "".join(f"{case.table.hex()}\n" for case in cases).encode()
-    done = subprocess.run(words, input=lines, capture_output=True)
-    return done.returncode, done.stdout.decode().splitlines()
+    try:
+        done = subprocess.run(words, input=lines, capture_output=True, timeout=LONGEST_RUN)
+    except subprocess.TimeoutExpired:
+        return "did not end", []
+    return f"ended with status {done.returncode}", done.stdout.decode().splitlines()
 
 
 def blame(kind, cases, number, reason):
@@ -53,13 +58,13 @@ def blame(kind, cases, number, reason):
 
 def answers(kind, words, cases):
     """A program's line for each case; where it breaks off, each case alone shows at which."""
-    status, lines = run(words, cases)
-    if status != 0:
+    end, lines = run(words, cases)
+    if end != ENDED:
         for number, case in enumerate(cases):
-            if run(words, [case])[0] != 0:
-                blame(kind, cases, number, f"{words[0].name} ended with status {status}")
-    if (status, len(lines)) != (0, len(cases)):
-        raise AssertionError(f"seed {SEED}, {kind}: {words[0].name}: status {status}, {len(lines)} lines")
+            if run(words, [case])[0] != ENDED:
+                blame(kind, cases, number, f"{words[0].name} {end}")
+    if (end, len(lines)) != (ENDED, len(cases)):
+        raise AssertionError(f"seed {SEED}, {kind}: {words[0].name} {end}, {len(lines)} lines")
     return lines
 
 

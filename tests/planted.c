@@ -61,6 +61,8 @@ uint64_t __wrap_probe_check(const uint8_t *table, size_t length, uint8_t *rows, 
     plant_around("ring-before", "ring-after", ring, ring_length);
     if (is_planted("aborts"))
         abort();
+    while (is_planted("stays")) {
+    }
     if (is_planted("any-length") && code == 1)
         return 0;
     return code + (is_planted("number") ? 1 : is_planted("place") ? 256 : 0);

@@ -176,6 +176,11 @@ class Planted(unittest.TestCase):
     def test_nothing(self):
         self.assertEqual(len(self.planted("nothing")), len(self.cases))
 
+    def test_stays(self):
+        found = self.assertRaisesRegex(AssertionError, "case 0: check-planted did not end; table")
+        with mock.patch.object(comparing, "LONGEST_RUN", 0.5), found:
+            self.planted("stays")
+
     def test_any_length(self):
         with self.assertRaisesRegex(AssertionError, "code is 0 .* and 1 for"):
             self.planted("any-length", lengths=(1023, 64))
