@@ -105,6 +105,10 @@ def compare(kind, cases, driver=DRIVER, lengths=()):
     return found
 
 
+def sample_case(name):
+    return check_cases.Case(test_samples.sample(f"{name}.table"), {"text": test_samples.sample(f"{name}.txt").hex()})
+
+
 @functools.cache
 def compared(kind):
     make, count = check_cases.KINDS[kind]
@@ -139,8 +143,7 @@ class Check(unittest.TestCase):
         self.assertGreater(len(compared(kind)), 0)
 
     def test_samples(self):
-        files = sorted(test_samples.SAMPLES.glob("*.table"))
-        cases = [check_cases.Case(path.read_bytes(), {"text": path.with_suffix(".txt").read_bytes().hex()}) for path in files]
+        cases = [sample_case(path.stem) for path in sorted(test_samples.SAMPLES.glob("*.table"))]
         self.assertGreater(len(compare("samples", cases)), 0)
 
     def test_the_mix_has_each_kind(self):
@@ -162,7 +165,9 @@ class Check(unittest.TestCase):
 class Planted(unittest.TestCase):
     """One test for each fault planted into the proved check: the comparison finds it and names it."""
 
-    cases = [check_cases.Case((test_samples.SAMPLES / f"{name}.table").read_bytes(), {}) for name in ("shortcut", "ragged-17")]
+    def setUp(self):
+        # One that is accepted and one that is refused.
+        self.cases = [sample_case("shortcut"), sample_case("ragged-17")]
 
     def planted(self, fault, **how):
         with mock.patch.dict(os.environ, {"PLANT": fault}):

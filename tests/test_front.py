@@ -143,7 +143,7 @@ class Building(unittest.TestCase):
         for command in ("check", "demo"):
             status, out, said = front(command, path=self.home / "reefsplice", env=environment)
             self.assertEqual((status, out), (1, ""))
-            self.assertTrue(said.endswith("reefsplice: the check program is not proved, so nothing was run\n"), said)
+            self.assertIn("\nreefsplice: the check program is not proved", said)
 
     def test_without_rt(self):
         self.assertEqual(self.check("one", tools=False), (1, "", False))

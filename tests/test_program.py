@@ -1,4 +1,4 @@
-"""The check program, through the front: the samples against their stored texts, seeded tables against the second program.
+"""The check program, through the front: samples against their stored texts, seeded tables against the second program.
 
 Only standard output is fixed, and it holds nothing but the check's text.
 """
