@@ -95,7 +95,7 @@ class Building(unittest.TestCase):
         """Gives the status, the text, and whether something was built."""
         if source:
             self.source.write_text(source)
-        path = f"{self.tools}:{os.environ['PATH']}" if tools else "/usr/bin:/bin"
+        path = f"{self.tools}:{os.environ['PATH']}" if tools else os.defpath
         status, out, said = front(
             "check", table=b"input\n", path=self.home / "reefsplice", env=os.environ | {"PATH": path}
         )

@@ -1,8 +1,9 @@
 //! The proved check and the second program's check on the same bytes in one process.
 //!
 //! `bench time BATCHES TABLE..` times both in turn and prints a line for each table: its numbers, the median
-//! nanoseconds of one check by each, and the median of second/proved over the pairs of batches.
-//! `bench repeat proved|second COUNT TABLE` makes so many checks and prints nothing, for counting instructions.
+//! nanoseconds of the proved reader alone and of one check by each, and the median of second/proved over the pairs of
+//! batches.
+//! `bench repeat reading|proved|second COUNT TABLE` makes so many checks and prints nothing, for counting instructions.
 
 use std::env;
 use std::fs;
@@ -12,8 +13,9 @@ use std::time::Instant;
 use second::limits::{RING_BYTES, ROWS_BYTES};
 use second::Verdict;
 
+// Rattle passes a slice as a pointer, then its length.
 extern "C" {
-    // Rattle passes a slice as a pointer, then its length.
+    fn probe_read(table: *const u8, table_length: usize) -> u64;
     fn probe_check(
         table: *const u8,
         table_length: usize,
@@ -49,6 +51,12 @@ fn proved(table: &[u8], lent: &mut Lent) -> u64 {
     }
 }
 
+/// The part of the proved check that every table pays for, to see where the time goes.
+fn reading(table: &[u8], _: &mut Lent) -> u64 {
+    // SAFETY: the slice lives through the call, and the length is its own.
+    unsafe { probe_read(table.as_ptr(), table.len()) }
+}
+
 fn second(table: &[u8], lent: &mut Lent) -> u64 {
     match second::check(table, &mut lent.rows, &mut lent.ring).verdict {
         Verdict::Refused(number, place) => u64::from(number) + 256 * u64::from(place),
@@ -82,24 +90,24 @@ fn median(mut numbers: Vec<f64>) -> f64 {
     numbers[numbers.len() / 2]
 }
 
-fn time(batches: usize, table: &[u8]) -> (f64, f64, f64) {
+/// The median times of `reading`, `proved` and `second`, then the ratio.
+fn time(batches: usize, table: &[u8]) -> [f64; 4] {
     let mut lent = fresh();
-    let mut count_for = |check: Check| {
+    let checks: [Check; 3] = [reading, proved, second];
+    let counts = checks.map(|check| {
         let once = batch(check, 20, table, &mut lent);
         (BATCH_NANOSECONDS / once).ceil() as usize
-    };
-    let counts = (count_for(proved), count_for(second));
-    let (mut ours, mut theirs, mut ratios) = (vec![], vec![], vec![]);
+    });
+    let mut times = [vec![], vec![], vec![]];
     for _ in 0..batches {
-        let (one, other) = (
-            batch(proved, counts.0, table, &mut lent),
-            batch(second, counts.1, table, &mut lent),
-        );
-        ours.push(one);
-        theirs.push(other);
-        ratios.push(other / one);
+        for which in 0..checks.len() {
+            times[which].push(batch(checks[which], counts[which], table, &mut lent));
+        }
     }
-    (median(ours), median(theirs), median(ratios))
+    let ratios = times[1].iter().zip(&times[2]).map(|(ours, its)| its / ours);
+    let ratio = median(ratios.collect());
+    let [read, ours, theirs] = times.map(median);
+    [read, ours, theirs, ratio]
 }
 
 /// A time of a wrong answer means nothing, so both must agree first.
@@ -116,9 +124,9 @@ fn print_line(name: &str, table: &[u8], batches: usize) {
     agree(name, table);
     let mut lent = fresh();
     let answer = second::check(table, &mut lent.rows, &mut lent.ring);
-    let (ours, theirs, ratio) = time(batches, table);
+    let [read, ours, theirs, ratio] = time(batches, table);
     println!(
-        "{} {} {} {} {} {ours:.0} {theirs:.0} {ratio:.2}",
+        "{} {} {} {} {} {read:.0} {ours:.0} {theirs:.0} {ratio:.2}",
         table.len() / 16,
         answer.stages,
         answer.longest,
@@ -137,7 +145,11 @@ fn main() {
             }
         }
         ["repeat", which, count, table] => {
-            let check = if which == "proved" { proved } else { second };
+            let check = match which {
+                "reading" => reading,
+                "proved" => proved,
+                _ => second,
+            };
             repeat(
                 check,
                 count.parse().unwrap(),
@@ -145,6 +157,8 @@ fn main() {
                 &mut fresh(),
             );
         }
-        _ => panic!("usage: bench time BATCHES TABLE.. | bench repeat proved|second COUNT TABLE"),
+        _ => panic!(
+            "usage: bench time BATCHES TABLE.. | bench repeat reading|proved|second COUNT TABLE"
+        ),
     }
 }
