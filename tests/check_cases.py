@@ -173,8 +173,7 @@ def rings(rng):
     """A ring of 2 to 63 vertices, at times a second one, with tails that lead into them and settled vertices beside."""
     count = rng.randint(2, 63)
     vertices = rng.sample(OWNERS, count)
-    first = rng.choice([2, 3, rng.randint(2, count), count])
-    first = min(first, count)
+    first = min(count, rng.choice([2, 3, rng.randint(2, count), count]))
     following = circle(vertices[:first])
     at = first
     if count - at >= 2 and rng.random() < 0.5:
@@ -218,16 +217,14 @@ def staged(rng, owners, each_has, stages, order=None):
     judgement looks at all of them.
     """
     order = order or list(range(1, owners + 1))
+    # The later a vertex settles, the further a path through it is looked at.
+    late = order[-max(20, owners // 3) :]
     paths = {}
     for at, v in enumerate(order):
-        before = order[min(at, stages - 1) - 1] if min(at, stages - 1) > 0 else None
-        own = [(v, 0)] if before is None else [(v, before, 0), (v, 0)]
-        # The later a vertex settles, the further a path through it is looked at.
-        late = order[-max(20, owners // 3) :]
-        long = fillers(rng, v, order[0], max(0, each_has - len(own)), late) if at else []
-        if at == 0:
-            own += fillers(rng, v, order[1], each_has - 1, late) if each_has > 1 else []
-        paths[v] = (own + long if before is None else long + own)[:each_has]
+        before = min(at, stages - 1)
+        own = [(v, order[before - 1], 0), (v, 0)] if before else [(v, 0)]
+        long = fillers(rng, v, order[0 if at else 1], max(0, each_has - len(own)), late)
+        paths[v] = (long + own if before else own + long)[:each_has]
     return table(paths)
 
 
@@ -284,7 +281,7 @@ KINDS = {
     "deep": (each(deep), 60),
     "all_stuck": (each(all_stuck), 20),
     "full_grown": (each(full_grown), 30),
-    "large": (from_reader(lambda count, rng: reader.accepted(reader.large, count, rng)), 40),
+    "large": (from_reader(reader.accepted, reader.large), 40),
     "full_ranks": (from_reader(reader.full_ranks), 40),
     "several_faults": (from_reader(reader.several_faults), 300),
     "changed_byte": (from_reader(reader.changed_byte), 200),
