@@ -258,18 +258,19 @@ def full_grown(rng):
 
 
 def damaged_more(number, count, rng):
-    """Tables with one fault, and further faults in the records after it, which change nothing of the answer."""
+    """Tables with a fault and more faults in the records after it, which change nothing of the answer."""
     cases = []
     for case in reader.damaged(number, count, rng):
         records = [case.table[at : at + RECORD_BYTES] for at in range(0, len(case.table), RECORD_BYTES)]
-        for at in range(case.expected[1] + 1, len(records)):
-            if rng.random() < 0.5:
-                records[at] = reader.careless(rng, records[at], records[:at])
-        cases.append(Case(b"".join(records), code_of(case.expected)))
+        after = range(case.expected[1] + 1, len(records))
+        for at in rng.sample(after, rng.randint(1, len(after)) if after else 0):
+            records[at] = reader.careless(rng, records[at], records[:at])
+        if after:
+            cases.append(Case(b"".join(records), code_of(case.expected)))
     return cases
 
 
-# How each kind is made, and how many cases it has; for a fault, at each of three places.
+# How each kind is made, and how many cases it has; for a fault, at each of the reader's three places.
 KINDS = {
     "small_random": (each(small_random), 500),
     "small_grown": (each(small_grown), 500),

@@ -39,6 +39,7 @@ MIX = {"cases": 2000, "complete": 300, "stuck": 300, "silent": 100, "stages 63":
 MIX |= {"1008 records": 50, "1008 records, stages 63": 5, "1008 records, stuck": 20}
 MIX |= {"ring without the lowest stuck": 100, "ring of 2": 20, "ring of 63": 5}
 MIX |= {f"refused {number}": 40 for number in range(2, 12)}
+MIX |= {f"refused {number} of several faults": 15 for number in range(2, 12)}
 RING_LENGTHS = 30
 
 # Lengths of rows and ring, none of them right.
@@ -116,11 +117,19 @@ def compared(kind):
     return list(zip(cases, compare(kind, cases)))
 
 
-def labels(case, answer):
+def refused_labels(kind, case, number):
+    yield f"refused {number}"
+    # The tables of a wrong length whose first record is bad as well have no hops or rank 17 there.
+    is_first_bad = case.table[1:2] == b"\x00" or case.table[:1] == b"\x11"
+    if kind.startswith("damaged_more") or number in (2, 3) and is_first_bad:
+        yield f"refused {number} of several faults"
+
+
+def labels(kind, case, answer):
     """What a case adds to the mix."""
     yield "cases"
     if answer["code"] != "0":
-        yield f"refused {int(answer['code']) % 256}"
+        yield from refused_labels(kind, case, int(answer["code"]) % 256)
         return
     verdict = "complete" if answer["stuck"] == "0" else "stuck"
     about = [verdict, f"stages {answer['stages']}", f"longest {answer['longest']}"]
@@ -147,7 +156,8 @@ class Check(unittest.TestCase):
         self.assertGreater(len(compare("samples", cases)), 0)
 
     def test_the_mix_has_each_kind(self):
-        found = Counter(label for kind in check_cases.KINDS for pair in compared(kind) for label in labels(*pair))
+        pairs = [(kind, *pair) for kind in check_cases.KINDS for pair in compared(kind)]
+        found = Counter(label for pair in pairs for label in labels(*pair))
         print(f"test_check: seed {SEED}, " + ", ".join(f"{label}: {found[label]}" for label in MIX), flush=True)
         self.assertEqual({label: found[label] for label in MIX if found[label] < MIX[label]}, {})
         self.assertGreaterEqual(sum(label.startswith("ring of") for label in found), RING_LENGTHS)
