@@ -1,5 +1,5 @@
-/* Answers each table of standard input by calling the proved check of libprobe.a: check_driver [ROWS RING], the lengths
-   of the lent buffers (1,024 and 64 if not given). A line is `CODE ROWS RING TEXT AROUND`: the first four as in `second
+/* Answers each table of standard input by calling the proved check of libprobe.a: check_driver [ROWS RING [TEXT]], the
+   lengths of the lent buffers (1,024, 64 and 16,384 if not given). A line is `CODE ROWS RING TEXT AROUND`: the first four as in `second
    check-batch`, and `kept`, or the first thing that changed and should not have. */
 #include "lines.h"
 #include <inttypes.h>
@@ -14,7 +14,7 @@ uint64_t probe_check(const uint8_t *table, size_t length, uint8_t *rows, size_t 
                      size_t ring_length);
 uint64_t probe_text(const uint8_t *table, size_t length, uint8_t *text, size_t text_length);
 
-static size_t rows_length = ROWS_BYTES, ring_length = RING_BYTES;
+static size_t rows_length = ROWS_BYTES, ring_length = RING_BYTES, text_length = TEXT_BYTES;
 
 /* A lent buffer between two edges that nothing may write to. */
 struct lent {
@@ -65,7 +65,7 @@ static struct called call(const uint8_t *table, size_t length, uint8_t turn)
 {
     uint8_t *before = room_for(length);
     memcpy(before, table, length);
-    struct called c = {lend(rows_length, turn), lend(ring_length, turn), lend(TEXT_BYTES, turn), 0, 0, 0};
+    struct called c = {lend(rows_length, turn), lend(ring_length, turn), lend(text_length, turn), 0, 0, 0};
     c.code = probe_check(table, length, c.rows.bytes, c.rows.length, c.ring.bytes, c.ring.length);
     c.written = probe_text(table, length, c.text.bytes, c.text.length);
     c.is_table_kept = memcmp(before, table, length) == 0;
@@ -85,7 +85,7 @@ static const char *spilled(struct called c)
 {
     if (!c.is_table_kept)
         return "table";
-    if (c.written > TEXT_BYTES)
+    if (c.written > c.text.length)
         return "text-length";
     if (is_changed(c.rows, 0, EDGE))
         return "rows-before";
@@ -97,7 +97,7 @@ static const char *spilled(struct called c)
         return "ring-after";
     if (is_changed(c.text, 0, EDGE))
         return "text-before";
-    if (is_changed(c.text, EDGE + c.written, TEXT_BYTES + 2 * EDGE))
+    if (is_changed(c.text, EDGE + c.written, c.text.length + 2 * EDGE))
         return "text-after";
     if (c.code != 0 && is_changed(c.rows, EDGE, EDGE + c.rows.length))
         return "rows-of-a-refused-table";
@@ -140,7 +140,7 @@ static void answer(const uint8_t *table, size_t length)
     printf("%" PRIu64, first.code);
     print_hex(first.rows.bytes, rows_length);
     print_hex(first.ring.bytes, ring_length);
-    print_hex(first.text.bytes, first.written > TEXT_BYTES ? 0 : first.written);
+    print_hex(first.text.bytes, first.written > text_length ? 0 : first.written);
     printf(" %s\n", around(first, turned));
     give_back(first);
     give_back(turned);
@@ -148,9 +148,11 @@ static void answer(const uint8_t *table, size_t length)
 
 int main(int count, char **words)
 {
-    if (count == 3) {
+    if (count >= 3) {
         rows_length = strtoul(words[1], NULL, 10);
         ring_length = strtoul(words[2], NULL, 10);
     }
+    if (count == 4)
+        text_length = strtoul(words[3], NULL, 10);
     return each_table(answer);
 }

@@ -46,6 +46,9 @@ RING_LENGTHS = 30
 LENGTHS = [(1023, 64), (1025, 64), (1024, 63), (1024, 65), (0, 64), (1024, 0), (0, 0), (64, 1024), (1023, 65)]
 LENGTHS += [(2048, 64), (1024, 128), (1040, 64), (65536 + 1024, 64), (1024, 256 + 64)]
 
+# Lengths of the buffer for the text: a shorter one takes as much of it as fits, and a longer one keeps its rest.
+TEXT_LENGTHS = [0, 1, 8, 50, 51, 100, 1000, 16383, 20000]
+
 # Each fault of planted.c, and what the comparison must say of it.
 PLANTS = {
     "number": "code is 1 .* and 0 for",
@@ -110,6 +113,16 @@ def sample_case(name):
     return check_cases.Case(test_samples.sample(f"{name}.table"), {"text": test_samples.sample(f"{name}.txt").hex()})
 
 
+def compare_texts(length, pairs, driver=DRIVER):
+    """Holds the text in a buffer of that length to the front of the whole text, for cases with their answers."""
+    kind, cases = f"text in {length} bytes", [case for case, _ in pairs]
+    lines = comparing.answers(kind, [driver, "1024", "64", str(length)], cases)
+    for number, ((_, answer), line) in enumerate(zip(pairs, lines)):
+        found, expected = line.split()[3:], [answer["text"][: 2 * length] or "-", "kept"]
+        if found != expected:
+            comparing.blame(kind, cases, number, f"{found} and not {expected}")
+
+
 @functools.cache
 def compared(kind):
     make, count = check_cases.KINDS[kind]
@@ -171,6 +184,12 @@ class Check(unittest.TestCase):
             with self.subTest(lengths=lengths):
                 self.assertEqual(len(compare(f"rows and ring of {lengths}", cases, lengths=lengths)), len(cases))
 
+    def test_other_text_lengths(self):
+        pairs = [pair for kind in check_cases.KINDS for pair in compared(kind)[:3]]
+        for length in TEXT_LENGTHS:
+            with self.subTest(length=length):
+                compare_texts(length, pairs)
+
 
 class Planted(unittest.TestCase):
     """One test for each fault planted into the proved check: the comparison finds it and names it."""
@@ -199,6 +218,13 @@ class Planted(unittest.TestCase):
     def test_any_length(self):
         with self.assertRaisesRegex(AssertionError, "code is 0 .* and 1 for"):
             self.planted("any-length", lengths=(1023, 64))
+
+    def test_other_text_lengths(self):
+        pairs = list(zip(self.cases, compare("planted", self.cases)))
+        compare_texts(20, pairs, PLANTED)
+        for fault in ("text-byte", "text-short", "text-long", "text-after"):
+            with mock.patch.dict(os.environ, {"PLANT": fault}), self.assertRaisesRegex(AssertionError, "and not"):
+                compare_texts(20, pairs, PLANTED)
 
     def test_what_a_case_says(self):
         case = self.cases[0]._replace(says={"stages": "2"})
