@@ -1,6 +1,6 @@
 /* Answers each table of standard input by calling the proved check of libprobe.a: check_driver [ROWS RING [TEXT]], the
-   lengths of the lent buffers (1,024, 64 and 16,384 if not given). A line is `CODE ROWS RING TEXT AROUND`: the first four as in `second
-   check-batch`, and `kept`, or the first thing that changed and should not have. */
+   lengths of the lent buffers (1,024, 64 and 16,384 if not given). A line is `CODE ROWS RING TEXT AROUND`: the first
+   four as in `second check-batch`, and `kept`, or the first thing that changed and should not have. */
 #include "lines.h"
 #include <inttypes.h>
 #include <stdio.h>
