@@ -6,20 +6,24 @@ tables come from a seed, which REEFSPLICE_SEED sets and the run prints. Where a 
 says its number and place, the answer is held to those too.
 """
 
-import os
 import random
-import subprocess
 import unittest
 from collections import Counter
-from itertools import zip_longest
 
+import comparing
 import reader_cases as made
 import test_samples
+from comparing import SECOND, SEED
 
-ROOT = test_samples.ROOT
-DRIVER = ROOT / ".build" / "probe" / "driver"
-SEED = os.environ.get("REEFSPLICE_SEED", "1")
-FIELDS = ("number", "place", "L", "present", "slots", "listens")
+DRIVER = comparing.BUILT / "reader"
+FIELDS = {
+    "number": comparing.characters,
+    "place": comparing.characters,
+    "L": comparing.characters,
+    "present": comparing.characters,
+    "slots": comparing.numbers,
+    "listens": comparing.characters,
+}
 
 # How many cases a kind has; for a damaged table, at each of the three places.
 KINDS = {
@@ -40,75 +44,29 @@ LEAST = 20
 compared = Counter()
 
 
-def build(words):
-    done = subprocess.run(words, cwd=ROOT, stdin=subprocess.DEVNULL, capture_output=True, text=True)
-    if done.returncode != 0:
-        raise RuntimeError(f"{words[0]} ended with status {done.returncode}: {(done.stdout + done.stderr)[-2000:]}")
-
-
 def setUpModule():
     print(f"test_reader: seed {SEED}", flush=True)
-    test_samples.setUpModule()
-    build(["rt", "staticlib", "probe"])
-    DRIVER.parent.mkdir(parents=True, exist_ok=True)
-    flags = ["-std=c11", "-O2", "-Wall", "-Wextra", "-Werror"]
-    build(["gcc", *flags, "tests/probe_driver.c", "target/staticlib/libprobe.a", "-o", DRIVER])
+    comparing.build_driver(DRIVER, "probe_driver.c")
 
 
 def tearDownModule():
     print(f"test_reader: seed {SEED}, {compared.total()} cases, by number: {dict(sorted(compared.items()))}")
 
 
-def run(words, cases):
-    """A program's exit status and its lines."""
-    lines = "".join(f"{case.table.hex()}\n" for case in cases).encode()
-    done = subprocess.run(words, input=lines, capture_output=True)
-    return done.returncode, done.stdout.decode().splitlines()
-
-
-def elements(field, word):
-    return word.split(",") if field == "slots" else word
-
-
-def difference(ours, theirs):
-    """The first field in which two answers differ and, in a long one, the first place."""
-    for field, one, other in zip_longest(FIELDS, ours.split(), theirs.split(), fillvalue="nothing"):
-        if one != other and max(len(one), len(other)) < 32:
-            return f"{field} is {one} for the proved reader and {other} for the second program"
-        if one != other:
-            pairs = enumerate(zip_longest(elements(field, one), elements(field, other)))
-            at, pair = next((at, pair) for at, pair in pairs if pair[0] != pair[1])
-            return f"{field} at {at} is {pair[0]} for the proved reader and {pair[1]} for the second program"
-    return None
-
-
 class Reader(unittest.TestCase):
     """One test for each kind of table."""
 
-    def blame(self, kind, cases, number, reason):
-        self.fail(f"seed {SEED}, {kind}, case {number}: {reason}; table {cases[number].table.hex()}")
-
-    def answers(self, kind, words, cases):
-        """A program's line for each case; where it breaks off, each case alone shows at which."""
-        status, lines = run(words, cases)
-        if status != 0:
-            for number, case in enumerate(cases):
-                if run(words, [case])[0] != 0:
-                    self.blame(kind, cases, number, f"{words[0].name} ended with status {status}")
-        self.assertEqual((status, len(lines)), (0, len(cases)), f"seed {SEED}, {kind}, {words[0].name}")
-        return lines
-
     def compare(self, kind, cases):
         """Gives the number and place of each answer, once the two programs agree on all."""
-        proved = self.answers(kind, [DRIVER], cases)
-        second = self.answers(kind, [test_samples.SECOND, "batch"], cases)
+        proved = comparing.answers(kind, [DRIVER], cases)
+        second = comparing.answers(kind, [SECOND, "batch"], cases)
         heads = [tuple(map(int, line.split()[:2])) for line in proved]
         for number, (case, head, ours, theirs) in enumerate(zip(cases, heads, proved, second)):
-            reason = difference(ours, theirs)
+            reason = comparing.difference(FIELDS, ours.split(), theirs.split())
             if not reason and case.expected not in (None, head):
                 reason = f"both say {head}, and the table was made for {case.expected}"
             if reason:
-                self.blame(kind, cases, number, reason)
+                comparing.blame(kind, cases, number, reason)
         compared.update(number for number, _ in heads)
         return heads
 

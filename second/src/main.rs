@@ -1,8 +1,9 @@
-//! The program: `check`, `reader`, `batch` and `run` on the command line.
+//! The program: `check`, `reader`, `batch`, `check-batch` and `run` on the
+//! command line.
 
 use std::env;
 use std::fs::File;
-use std::io::{self, BufReader, BufWriter, Read, Write};
+use std::io::{self, BufRead, BufReader, BufWriter, Read, Write};
 use std::process::ExitCode;
 
 use second::limits::{
@@ -14,6 +15,7 @@ use second::{batch, Table};
 const USAGE: &str = "usage: second check < TABLE
        second reader < TABLE
        second batch < CASES
+       second check-batch [ROWS RING] < CASES
        second run TABLEFILE SCHEDULEFILE";
 
 fn main() -> ExitCode {
@@ -22,7 +24,9 @@ fn main() -> ExitCode {
     let done = match arguments[..] {
         ["check"] => check(),
         ["reader"] => reader(),
-        ["batch"] => batch_cases(),
+        ["batch"] => batch::batch(cases(), answers()),
+        ["check-batch"] => batch::check_batch(cases(), answers(), ROWS_BYTES, RING_BYTES),
+        ["check-batch", rows, ring] => check_cases(rows, ring),
         ["run", table, schedule] => run(table, schedule),
         _ => Err(io::Error::new(io::ErrorKind::InvalidInput, USAGE)),
     };
@@ -63,10 +67,20 @@ fn reader() -> io::Result<()> {
     }
 }
 
-fn batch_cases() -> io::Result<()> {
-    let input = BufReader::with_capacity(1 << 16, io::stdin().lock());
-    let output = BufWriter::with_capacity(1 << 16, io::stdout().lock());
-    batch::batch(input, output)
+fn cases() -> impl BufRead {
+    BufReader::with_capacity(1 << 16, io::stdin().lock())
+}
+
+fn answers() -> impl Write {
+    BufWriter::with_capacity(1 << 16, io::stdout().lock())
+}
+
+/// The check with lent buffers of other lengths, which it must refuse.
+fn check_cases(rows: &str, ring: &str) -> io::Result<()> {
+    match (rows.parse(), ring.parse()) {
+        (Ok(rows), Ok(ring)) => batch::check_batch(cases(), answers(), rows, ring),
+        _ => Err(io::Error::new(io::ErrorKind::InvalidInput, USAGE)),
+    }
 }
 
 fn run(table_file: &str, schedule_file: &str) -> io::Result<()> {

@@ -27,6 +27,11 @@ fn hex(bytes: &[u8]) -> String {
     bytes.iter().map(|byte| format!("{byte:02x}")).collect()
 }
 
+/// The bytes of a lent buffer that `check-batch` left as they were.
+fn untouched(length: usize) -> Vec<u8> {
+    (0..length).map(|at| ((165 + 7 * at) % 256) as u8).collect()
+}
+
 /// A file of this test run with the given bytes.
 fn file(name: &str, bytes: &[u8]) -> PathBuf {
     let path = PathBuf::from(env!("CARGO_TARGET_TMPDIR")).join(name);
@@ -70,6 +75,51 @@ fn batch_answers_one_line_for_each_case() {
     let listens = format!("{}1{}", "0".repeat(64), "0".repeat(4031));
     let one = format!("0 0 1 11{} {slots} {listens}", "0".repeat(62));
     assert_eq!(lines, [&empty, "3 0", &one]);
+}
+
+#[test]
+fn check_batch_answers_one_line_for_each_case() {
+    let owners_1_2_1 = table(&[&[1, 0], &[2, 0], &[1, 2, 0]]);
+    let cases = format!("\n{}\n{}\n", hex(&owners_1_2_1), hex(&table_5()));
+    let printed = program(&["check-batch"], cases.as_bytes());
+    let fields: Vec<Vec<&str>> = printed.lines().map(|l| l.split(' ').collect()).collect();
+    assert_eq!(fields.len(), 3);
+    assert_eq!(fields[0][..6], ["0", "0", "0", "0", "0", "0"]);
+    assert_eq!(fields[1][..6], ["521", "0", "0", "0", "0", "0"]);
+    assert_eq!(fields[2][..6], ["0", "2", "1", "2", "1", "2"]);
+    let texts = [&[], &owners_1_2_1[..], &table_5()].map(|table| program(&["check"], table));
+    for (line, text) in fields.iter().zip(texts) {
+        assert_eq!(line[8], hex(text.as_bytes()));
+    }
+}
+
+#[test]
+fn check_batch_shows_the_buffers() {
+    let five = checked(&table_5());
+    let printed = program(&["check-batch"], hex(&table_5()).as_bytes());
+    let fields: Vec<&str> = printed.trim_end().split(' ').collect();
+    assert_eq!(fields[6..8], [hex(&five.rows), hex(&five.ring)]);
+    let refused = program(&["check-batch"], hex(&[0; 17]).as_bytes());
+    let fields: Vec<&str> = refused.trim_end().split(' ').collect();
+    assert_eq!(fields[..6], ["3", "0", "0", "0", "0", "0"]);
+    assert_eq!(fields[6..8], [hex(&untouched(1024)), hex(&untouched(64))]);
+}
+
+#[test]
+fn check_batch_refuses_other_lengths_first() {
+    for (rows, ring) in [(1023, 64), (1024, 65), (64, 1024), (0, 0)] {
+        let lengths = [rows, ring].map(|length: usize| length.to_string());
+        let arguments = ["check-batch", &lengths[0], &lengths[1]];
+        let printed = program(&arguments, format!("{}\n00", hex(&table_5())).as_bytes());
+        let lines: Vec<&str> = printed.lines().collect();
+        let buffers = [rows, ring].map(|length| match length {
+            0 => "-".to_string(),
+            _ => hex(&untouched(length)),
+        });
+        let refused = format!("1 0 0 0 0 0 {} {} ", buffers[0], buffers[1]);
+        assert!(lines[0].starts_with(&refused) && lines[1].starts_with(&refused));
+        assert!(lines[1].ends_with(&hex(b"refused 3\n")));
+    }
 }
 
 #[test]

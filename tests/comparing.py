@@ -1,0 +1,99 @@
+"""The proved code and the second program on the same tables: how both are built and run, and how the first difference
+between their lines is named.
+
+Tables come from a seed, which REEFSPLICE_SEED sets. The proved code is the crate `probe`, linked into a small C
+program that takes a table per line and answers with a line, as the second program does.
+"""
+
+import functools
+import os
+import subprocess
+from itertools import zip_longest
+
+import test_samples
+
+ROOT = test_samples.ROOT
+SECOND = test_samples.SECOND
+BUILT = ROOT / ".build" / "probe"
+SEED = os.environ.get("REEFSPLICE_SEED", "1")
+ENDED = "ended with status 0"
+LONGEST_RUN = 20  # seconds for one run over the cases of a kind, which takes less than one
+
+
+def build(words):
+    done = subprocess.run(words, cwd=ROOT, stdin=subprocess.DEVNULL, capture_output=True, text=True)
+    if done.returncode != 0:
+        raise RuntimeError(f"{words[0]} ended with status {done.returncode}: {(done.stdout + done.stderr)[-2000:]}")
+
+
+@functools.cache
+def build_libraries():
+    """Once for all tests of a run, since rt proves the crate again each time."""
+    test_samples.setUpModule()
+    build(["rt", "staticlib", "probe"])
+    BUILT.mkdir(parents=True, exist_ok=True)
+
+
+def build_driver(place, *sources, flags=()):
+    """A C program over the proved code."""
+    build_libraries()
+    files = [f"tests/{source}" for source in (*sources, "lines.c")]
+    warnings = ["-std=c11", "-O2", "-Wall", "-Wextra", "-Werror"]
+    build(["gcc", *warnings, *flags, *files, "target/staticlib/libprobe.a", "-o", place])
+
+
+def run(words, cases):
+    """How a program ended, and its lines."""
+    lines = "".join(f"{case.table.hex()}\n" for case in cases).encode()
+    try:
+        done = subprocess.run(words, input=lines, capture_output=True, timeout=LONGEST_RUN)
+    except subprocess.TimeoutExpired:
+        return "did not end", []
+    return f"ended with status {done.returncode}", done.stdout.decode().splitlines()
+
+
+def blame(kind, cases, number, reason):
+    raise AssertionError(f"seed {SEED}, {kind}, case {number}: {reason}; table {cases[number].table.hex()}")
+
+
+def answers(kind, words, cases):
+    """A program's line for each case; where it breaks off, each case alone shows at which."""
+    end, lines = run(words, cases)
+    if end != ENDED:
+        for number, case in enumerate(cases):
+            if run(words, [case])[0] != ENDED:
+                blame(kind, cases, number, f"{words[0].name} {end}")
+    if (end, len(lines)) != (ENDED, len(cases)):
+        raise AssertionError(f"seed {SEED}, {kind}: {words[0].name} {end}, {len(lines)} lines")
+    return lines
+
+
+# ---- the first difference
+
+
+def characters(word):
+    return word
+
+
+def numbers(word):
+    return word.split(",")
+
+
+def hex_bytes(word):
+    return [word[at : at + 2] for at in range(0, len(word), 2)]
+
+
+def difference(fields, ours, theirs):
+    """The first field in which two lists of words differ and, in a long one, the first place; or nothing.
+
+    `fields` gives for each name how its word is taken apart.
+    """
+    for name, one, other in zip_longest(fields, ours, theirs, fillvalue="nothing"):
+        if one != other and max(len(one), len(other)) < 32:
+            return f"{name} is {one} for the proved code and {other} for the second program"
+        if one != other:
+            apart = fields.get(name, characters)
+            pairs = enumerate(zip_longest(apart(one), apart(other), fillvalue="nothing"))
+            at, (mine, its) = next((at, pair) for at, pair in pairs if pair[0] != pair[1])
+            return f"{name} at {at} is {mine} for the proved code and {its} for the second program"
+    return None

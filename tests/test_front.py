@@ -1,0 +1,153 @@
+"""The front: its help, its demo, and that it proves once for given sources and never runs an old program."""
+
+import os
+import shutil
+import subprocess
+import tempfile
+import time
+import unittest
+from pathlib import Path
+
+import test_program
+import test_samples
+
+FRONT = test_program.FRONT
+# A second run starts at once: the quickest of some, since the machine may be busy.
+RUNS, SECONDS = 5, 0.1
+
+
+def setUpModule():
+    test_program.build_program()
+
+
+def front(*words, table=b"", path=FRONT, **how):
+    done = subprocess.run([path, *words], input=table, capture_output=True, **how)
+    return done.returncode, done.stdout.decode(), done.stderr.decode()
+
+
+class Front(unittest.TestCase):
+    table = test_samples.sample("shortcut.table")
+
+    def test_help_without_a_subcommand(self):
+        status, out, said = front()
+        self.assertEqual((status, said), (0, ""))
+        self.assertTrue(out.startswith("usage: ./reefsplice COMMAND\n"))
+        for command in ("check < TABLE", "demo", "second-check < TABLE", "help"):
+            self.assertIn(f"\n  {command} ", out)
+        self.assertEqual(front("help"), (0, out, ""))
+
+    def test_an_unknown_subcommand(self):
+        self.assertEqual(front("chekc"), (2, "", front("help")[1]))
+
+    def test_check_prints_the_text_alone(self):
+        self.assertEqual(front("check", table=self.table), (0, test_samples.TABLE_5, ""))
+
+    def test_a_second_run_starts_at_once(self):
+        took = []
+        for _ in range(RUNS):
+            began = time.monotonic()
+            front("check", table=self.table)
+            took.append(time.monotonic() - began)
+        self.assertLess(min(took), SECONDS)
+
+    def test_from_any_folder_and_through_a_link(self):
+        with tempfile.TemporaryDirectory() as folder:
+            link = Path(folder) / "link"
+            link.symlink_to(FRONT)
+            found = front("check", table=self.table, path=link, cwd=folder)
+        self.assertEqual(found, (0, test_samples.TABLE_5, ""))
+
+    def test_demo_prints_every_sample(self):
+        expected = "Printed by the proved program:\n"
+        for path in sorted(test_samples.SAMPLES.glob("*.table"), key=lambda path: path.name):
+            expected += f"\n{path.stem}\n{path.with_suffix('.txt').read_text()}"
+        self.assertEqual(front("demo", env=os.environ | {"LC_ALL": "C"}), (0, expected, ""))
+
+
+# Stands in for rt: it proves nothing, reads all that it is given, and makes a program that prints the source and its
+# input; a source that says `wrong` is not proved.
+RT = """#!/bin/sh
+echo "rt $*: $(cat)"
+mkdir -p target/bin
+! grep -q wrong crates/a/src/lib.rt || exit 1
+printf '#!/bin/sh\\necho %s\\ncat\\n' "$(cat crates/a/src/lib.rt)" >target/bin/check_program
+chmod +x target/bin/check_program
+"""
+
+
+class Building(unittest.TestCase):
+    """The front in a folder of its own, with a stand-in for rt."""
+
+    def setUp(self):
+        holder = tempfile.TemporaryDirectory()
+        self.addCleanup(holder.cleanup)
+        self.home = Path(holder.name) / "home with a space"
+        self.source = self.home / "crates/a/src/lib.rt"
+        self.source.parent.mkdir(parents=True)
+        (self.home / "crates.txt").write_text("a:\n")
+        shutil.copy(FRONT, self.home)
+        self.tools = self.home.parent / "tools"
+        self.tools.mkdir()
+        (self.tools / "rt").write_text(RT)
+        (self.tools / "rt").chmod(0o755)
+
+    def check(self, source=None, tools=True):
+        """Gives the status, the text, and whether something was built."""
+        if source:
+            self.source.write_text(source)
+        path = f"{self.tools}:{os.environ['PATH']}" if tools else os.defpath
+        status, out, said = front(
+            "check", table=b"input\n", path=self.home / "reefsplice", env=os.environ | {"PATH": path}
+        )
+        return status, out, "rt check check_program: \n" in said
+
+    def test_built_once(self):
+        self.assertEqual(self.check("one"), (0, "one\ninput\n", True))
+        self.assertEqual(self.check(), (0, "one\ninput\n", False))
+        self.assertEqual(self.check(tools=False), (0, "one\ninput\n", False))
+
+    def test_built_again_where_a_source_changed(self):
+        self.check("one")
+        self.assertEqual(self.check("two"), (0, "two\ninput\n", True))
+        self.assertEqual(self.check(), (0, "two\ninput\n", False))
+
+    def test_an_old_time_hides_no_change(self):
+        self.check("one")
+        self.source.write_text("two")
+        os.utime(self.source, (0, 0))
+        self.assertEqual(self.check(), (0, "two\ninput\n", True))
+
+    def test_built_again_where_a_file_came_went_or_was_renamed(self):
+        self.check("one")
+        other = self.source.with_name("other.rt")
+        for change in (
+            lambda: other.write_text("x"),
+            lambda: other.rename(other.with_name("third.rt")),
+            lambda: other.with_name("third.rt").unlink(),
+            lambda: (self.home / "crates.txt").write_text("a:\nb:\n"),
+            lambda: shutil.rmtree(self.home / ".build"),
+        ):
+            change()
+            self.assertEqual(self.check(), (0, "one\ninput\n", True))
+            self.assertEqual(self.check(), (0, "one\ninput\n", False))
+
+    def test_not_proved(self):
+        self.check("one")
+        for _ in range(2):
+            self.assertEqual(self.check("wrong"), (1, "", True))
+        self.assertEqual(self.check("one"), (0, "one\ninput\n", True))
+
+    def test_says_what_failed(self):
+        self.source.write_text("wrong")
+        environment = os.environ | {"PATH": f"{self.tools}:{os.environ['PATH']}"}
+        for command in ("check", "demo"):
+            status, out, said = front(command, path=self.home / "reefsplice", env=environment)
+            self.assertEqual((status, out), (1, ""))
+            self.assertIn("\nreefsplice: the check program is not proved", said)
+
+    def test_without_rt(self):
+        self.assertEqual(self.check("one", tools=False), (1, "", False))
+
+
+if __name__ == "__main__":
+    unittest.main()
