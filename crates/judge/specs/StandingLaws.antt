@@ -7,7 +7,7 @@ use mathlib.Core.Option.{none, some}
 use Prim.Native.Nat.{ℕ, zero, suc, _+_, _-_, _<_, _≤_}
 use native.Mathlib.Omega.{arith}
 use native.Mathlib.Nat.{not-suc-le-zero}
-use lib.ListN.{length, getD, take, drop, set, drop-of-length-le, List·getD-eq-default}
+use lib.ListN.{length, getD, take, drop, set, length-set, drop-of-length-le, List·getD-eq-default}
 use lib.Seq.{drop-cons}
 use native.Mathlib.Numerals.{add-one}
 use Rattle.lists.specs.Parts.{part-to-end}
@@ -162,13 +162,17 @@ look-compatible t marks shown p i n b x e f g h =
 pub record Judged (t : List ℕ) (slots : List (List ℕ)) (marks shown : List ℕ) (number v : ℕ) (nextMarks nextShown : List ℕ) : Type 0 where
   pub marked : nextMarks ≡ renewed (markAfter t slots marks shown number) marks v
   pub showed : nextShown ≡ renewed (shownAfter t slots marks shown) shown v
+  pub manyMarks : length nextMarks ≡ 64
+  pub manyShown : length nextShown ≡ 64
 
 module _ (t : List ℕ) (slots : List (List ℕ)) (marks shown : List ℕ) (number : ℕ) where
   -- at the start nothing is new
-  pub judged-none : Judged t slots marks shown number 0 marks shown
-  judged-none = record {
+  pub judged-none : length marks ≡ 64 → length shown ≡ 64 → Judged t slots marks shown number 0 marks shown
+  judged-none l m = record {
     marked = sym (renewed-none (markAfter t slots marks shown number) marks);
     showed = sym (renewed-none (shownAfter t slots marks shown) shown);
+    manyMarks = l;
+    manyShown = m;
   }
 
   -- at the end all is
@@ -195,6 +199,8 @@ module _ (t : List ℕ) (slots : List (List ℕ)) (marks shown : List ℕ) (numb
     judged-skip e = record {
       marked = keep-mark (rw (sym look ∙ e, markAfter));
       showed = j .showed ∙ renewed-keep (shownAfter t slots marks shown) shown v 65535 (omega arith) (rw (sym look ∙ e, shownAfter));
+      manyMarks = j .manyMarks;
+      manyShown = j .manyShown;
     }
 
     module _ (e : b ≡ true) (best : ℕ) (found : best ≡ bestRecord t marks shown (getD slots v [])) where
@@ -212,7 +218,12 @@ module _ (t : List ℕ) (slots : List (List ℕ)) (marks shown : List ℕ) (numb
         -- one that waits gets the record of its best compatible path
         pub judged-wait : x ≡ false → Judged t slots marks shown number (v + 1) nextMarks (set nextShown v best)
         unfolding markAfter
-        judged-wait f = record { marked = keep-mark (rw (verdict ∙ f, markAfter)); showed = stores }
+        judged-wait f = record {
+          marked = keep-mark (rw (verdict ∙ f, markAfter));
+          showed = stores;
+          manyMarks = j .manyMarks;
+          manyShown = length-set nextShown v best ∙ j .manyShown;
+        }
 
         -- one that enters gets the stage's number too
         pub judged-enter : x ≡ true → Judged t slots marks shown number (v + 1) (set nextMarks v number) (set nextShown v best)
@@ -221,4 +232,6 @@ module _ (t : List ℕ) (slots : List (List ℕ)) (marks shown : List ℕ) (numb
           marked = ap (λ (y : List ℕ). set y v number) (j .marked)
               ∙ renewed-store (markAfter t slots marks shown number) marks v number (omega arith) (rw (verdict ∙ f, markAfter));
           showed = stores;
+          manyMarks = length-set nextMarks v number ∙ j .manyMarks;
+          manyShown = length-set nextShown v best ∙ j .manyShown;
         }

@@ -21,18 +21,16 @@ abbrev μ-loop : tie.MeasureT-loop
 loop-holds : tie.Need-loop-holds Inv-loop μ-loop
 loop-holds c =
     let a = c .before .before .before in
-    let held = a .good .1 .1 .0 .1 .1 in (
-      sym (length-map (a .args .before .marks) (λ n. n)) ∙ good-length (eInt w8) 64 (map (λ n. n) (a .args .before .marks)) _ (held .0),
-      sym (length-map (a .args .before .shown) (λ n. n)) ∙ good-length (eInt w16) 64 (map (λ n. n) (a .args .before .shown)) _ (held .1 .0),
-      omega arith,
-      judged-none _ _ _ _ _,
-    )
+    let held = a .good .1 .1 .0 .1 .1 in
+    let m = sym (length-map (a .args .before .marks) (λ n. n)) ∙ good-length (eInt w8) 64 (map (λ n. n) (a .args .before .marks)) _ (held .0) in
+    let s = sym (length-map (a .args .before .shown) (λ n. n)) ∙ good-length (eInt w16) 64 (map (λ n. n) (a .args .before .shown)) _ (held .1 .0) in
+    (m, s, omega arith, judged-none _ _ _ _ _ m s)
 
 add-v : tie.Need-add-v Inv-loop μ-loop
 add-v c = omega arith
 
 slice-aggregate-is-judged : tie.Need-slice-aggregate-is-judged Inv-loop μ-loop
-slice-aggregate-is-judged c = sym (c .before .before .loop .inv .0)
+slice-aggregate-is-judged c = omega arith
 
 is-judged-requires : tie.Need-is-judged-requires Inv-loop μ-loop
 is-judged-requires c κs = omega arith
@@ -51,10 +49,10 @@ loop-again c =
     )
 
 slice-aggregate-best-record : tie.Need-slice-aggregate-best-record Inv-loop μ-loop
-slice-aggregate-best-record c = sym (c .before .before .before .before .before .loop .inv .0)
+slice-aggregate-best-record c = omega arith
 
 slice-aggregate-best-record-2 : tie.Need-slice-aggregate-best-record-2 Inv-loop μ-loop
-slice-aggregate-best-record-2 c = sym (c .before .before .before .before .before .before .loop .inv .1)
+slice-aggregate-best-record-2 c = omega arith
 
 mul-best-record : tie.Need-mul-best-record Inv-loop μ-loop
 mul-best-record c = omega arith
@@ -72,7 +70,7 @@ array-write-next-shown : tie.Need-array-write-next-shown Inv-loop μ-loop
 array-write-next-shown c = omega arith
 
 slice-aggregate-enters : tie.Need-slice-aggregate-enters Inv-loop μ-loop
-slice-aggregate-enters c = sym (c .before .before .before .before .before .before .before .before .before .loop .inv .0)
+slice-aggregate-enters c = omega arith
 
 enters-requires : tie.Need-enters-requires Inv-loop μ-loop
 enters-requires c κs = omega arith
