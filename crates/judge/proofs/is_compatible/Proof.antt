@@ -1,7 +1,7 @@
 -- `judge::is_compatible` meets its contract: what is left of the path from that hop on tells the answer.
 -- Assumes nothing.
 use mathlib.Core.Path.{_≡_, refl, sym}
-use Prim.Native.Nat.{_≤_, _-_}
+use Prim.Native.Nat.{_-_}
 use native.Mathlib.Omega.{arith}
 use lib.ListN.{length, drop}
 use Rattle.rules.specs.Greedy.{compatible}
@@ -11,13 +11,13 @@ use Rattle.judge.proofs.is_compatible.Statement.{statement}
 use Rattle.judge.proofs.is_compatible.Tie as tie
 
 abbrev Inv-loop : tie.InvT-loop
-Inv-loop t marks shown path hop₀ hop = (hop ≤ length path) × (compatible (settledBy t marks shown) (drop hop path) ≡ compatible (settledBy t marks shown) path)
+Inv-loop t marks shown path hop₀ hop = compatible (settledBy t marks shown) (drop hop path) ≡ compatible (settledBy t marks shown) path
 
 abbrev μ-loop : tie.MeasureT-loop
 μ-loop t marks shown path hop₀ hop = length path - hop
 
 loop-holds : tie.Need-loop-holds Inv-loop μ-loop
-loop-holds c = (omega arith, refl)
+loop-holds c = refl
 
 shared-slice-read-v : tie.Need-shared-slice-read-v Inv-loop μ-loop
 shared-slice-read-v c = omega arith
@@ -43,7 +43,7 @@ agrees-requires c κs = omega arith
 returns : tie.Need-returns Inv-loop μ-loop
 returns c =
     let a = c .before .before .before .before .before in
-    compatible-hit _ _ _ _ _ (a .before .loop .inv .1) (a .loop-test .taken) _ (c .before .before .before .is-settled .ensures) _ (c .before .before .if1 .taken)
+    compatible-hit _ _ _ _ _ (a .before .loop .inv) (a .loop-test .taken) _ (c .before .before .before .is-settled .ensures) _ (c .before .before .if1 .taken)
     (c .agrees .ensures)
 
 add-hop : tie.Need-add-hop Inv-loop μ-loop
@@ -55,10 +55,10 @@ loop-less c = omega arith
 loop-again : tie.Need-loop-again Inv-loop μ-loop
 loop-again c =
     let a = c .before .before .before in
-    (omega arith, compatible-next _ _ _ _ _ (a .before .loop .inv .1) (a .loop-test .taken) _ (c .before .is-settled .ensures) (c .if1 .left))
+    compatible-next _ _ _ _ _ (a .before .loop .inv) (a .loop-test .taken) _ (c .before .is-settled .ensures) (c .if1 .left)
 
 returns-2 : tie.Need-returns-2 Inv-loop μ-loop
-returns-2 c = compatible-end _ _ _ _ _ (c .before .loop .inv .1) (c .loop-test .left)
+returns-2 c = compatible-end _ _ _ _ _ (c .before .loop .inv) (c .loop-test .left)
 
 pub is-compatible-spec : {M : Type 1} → statement M
 is-compatible-spec =
