@@ -26,3 +26,4 @@ pub mod RingLaws
 pub mod ReportLaws
 pub mod MachineLaws
 pub mod RunLaws
+pub mod TextLaws
