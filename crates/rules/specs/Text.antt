@@ -26,17 +26,21 @@ digitsIn (suc k) n = elim (n / 10) [ zero ↦ [] | suc m ↦ digitsIn k (suc m) 
 unfoldable pub decimal : ℕ → List ℕ
 decimal n = digitsIn 10 n
 
+-- a word and its number
+unfoldable pub labelled : String → ℕ → List ℕ
+labelled word n = codes word ++ decimal n
+
 -- each of some numbers after a space
 unfoldable pub spaced : List ℕ → List ℕ
 spaced [] = []
-spaced (n ∷ ns) = codes " " ++ decimal n ++ spaced ns
+spaced (n ∷ ns) = labelled " " n ++ spaced ns
 
 -- "A refusal prints `refused 9 record 2`, or `refused 3` for 1 to 3."
 unfoldable pub recordWords : ℕ → ℕ → List ℕ
-recordWords n k = elim (ltb n 4) [ true ↦ [] | false ↦ codes " record " ++ decimal k ]
+recordWords n k = elim (ltb n 4) [ true ↦ [] | false ↦ labelled " record " k ]
 
 unfoldable pub refusedLine : ℕ → ℕ → List ℕ
-refusedLine n k = codes "refused " ++ decimal n ++ recordWords n k ++ codes "\n"
+refusedLine n k = labelled "refused " n ++ recordWords n k ++ codes "\n"
 
 -- "verdict stuck settled 1 stuck 2 stages 1 longest 2"; "A complete table's first line says `complete` in place of `stuck`
 -- after `verdict`, keeps the four counts". The numbers are the check's: ring length, settled, stuck, s and L.
@@ -44,19 +48,15 @@ unfoldable pub verdictLine : List ℕ → List ℕ → List ℕ
 verdictLine name numbers =
     codes "verdict "
     ++ name
-    ++ codes " settled "
-    ++ decimal (getD numbers 1 0)
-    ++ codes " stuck "
-    ++ decimal (getD numbers 2 0)
-    ++ codes " stages "
-    ++ decimal (getD numbers 3 0)
-    ++ codes " longest "
-    ++ decimal (getD numbers 4 0)
+    ++ labelled " settled " (getD numbers 1 0)
+    ++ labelled " stuck " (getD numbers 2 0)
+    ++ labelled " stages " (getD numbers 3 0)
+    ++ labelled " longest " (getD numbers 4 0)
     ++ codes "\n"
 
 -- "1 stage 1", "2 stuck": the row's byte 0 is the "stage; .. 255 stuck"
 unfoldable pub stageWords : List ℕ → List ℕ
-stageWords row = elim (eqb (getD row 0 0) 255) [ true ↦ codes " stuck" | false ↦ codes " stage " ++ decimal (getD row 0 0) ]
+stageWords row = elim (eqb (getD row 0 0) 255) [ true ↦ codes " stuck" | false ↦ labelled " stage " (getD row 0 0) ]
 
 -- "byte 1 rank, byte 2 hops, bytes 3 to 15 the vertices"
 unfoldable pub rowPath : List ℕ → List ℕ
@@ -67,7 +67,7 @@ unfoldable pub pathWords : List ℕ → List ℕ
 pathWords row =
     elim (eqb (getD row 1 0) 0) [
       | true ↦ codes " none"
-      | false ↦ codes " rank " ++ decimal (getD row 1 0) ++ codes " path" ++ spaced (rowPath row)
+      | false ↦ labelled " rank " (getD row 1 0) ++ codes " path" ++ spaced (rowPath row)
     ]
 
 -- "One line per present vertex but 0, rising: number, stage or stuck, rank, path." Byte 0 is 254 for an absent vertex.

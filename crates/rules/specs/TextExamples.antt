@@ -13,7 +13,7 @@ use Rattle.rules.specs.Greedy.{isSettled, compatible, atStart, best, jud
 use Rattle.rules.specs.Stable.{extends, bestGiven}
 use Rattle.rules.specs.Report.{placeIn, rankIn, rowBytes, row, report}
 use Rattle.rules.specs.Answers.{verdictOf, verdict}
-use Rattle.rules.specs.Text.{codes, digitsIn, decimal, spaced, recordWords, refusedLine, verdictLine, stageWords, rowPath, pathWords, rowLine, rowAt, rowLines, ringLine, textOf, checkText}
+use Rattle.rules.specs.Text.{codes, digitsIn, decimal, labelled, spaced, recordWords, refusedLine, verdictLine, stageWords, rowPath, pathWords, rowLine, rowAt, rowLines, ringLine, textOf, checkText}
 use Rattle.rules.specs.Examples.{recordBytes, blockBytes, tableBytes}
 
 -- A table's bytes, and the text that is printed for them.
@@ -70,7 +70,7 @@ unfolding refusedIf _orElse_ outside firstFrom anyBelow countBelow thoseBelow an
     nextHop rest first hopsBad vertexBad unusedOf fillerBad twiceBad lastBad ownerBad rankDue rankBad pathBad inRecord rule
     recordRules firstBroken fault faulty firstBad badRecord tooLong ragged refusal isSettled compatible atStart best judged
     stage settledList settled enters quiet stageCount stageOf stuckIn follows fromVertex beforeVertex closedPart lowestOf
-    turned ringFrom extends bestGiven placeIn rankIn rowBytes row report verdictOf verdict codes digitsIn decimal spaced
+    turned ringFrom extends bestGiven placeIn rankIn rowBytes row report verdictOf verdict codes digitsIn decimal labelled spaced
     recordWords refusedLine verdictLine stageWords rowPath pathWords rowLine rowAt rowLines ringLine textOf checkText
     recordBytes blockBytes tableBytes emptyText table5Text table6Text recordText raggedText printed
 worked-texts = refl
