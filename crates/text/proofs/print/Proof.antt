@@ -1,3 +1,8 @@
+-- `text::print` meets its contract: the lines of each verdict behind each other.
+-- Assumes nothing.
+use Rattle.rules.specs.Text.{codes}
+use Rattle.text.specs.VerdictLaws.{complete-text, stuck-text, refused-text}
+use Rattle.letters.specs.LayLaws.{laid-then, laid-as}
 use borrow.Author.Needs.{needs}
 use Rattle.text.proofs.print.Statement.{statement}
 use Rattle.text.proofs.print.Tie as tie
@@ -30,7 +35,8 @@ same-length c = search needs
 
 -- src/lib.rt:148:13
 returns : tie.Need-returns
-returns c = ?
+unfolding codes
+returns c = laid-as (laid-then (c .before .before .before .before .before .before .put-verdict .ensures) (c .before .before .put-rows .ensures)) (complete-text _ _ _ _ (c .before .before .before .before .before .before .before .before .before .enum-told .given .1))
 
 -- src/lib.rt:150:24
 enum-known-verdict : tie.Need-enum-known-verdict
@@ -58,7 +64,8 @@ same-length-2 c = search needs
 
 -- src/lib.rt:153:13
 returns-2 : tie.Need-returns-2
-returns-2 c = ?
+unfolding codes
+returns-2 c = laid-as (laid-then (laid-then (c .before .before .before .before .before .before .before .before .before .before .put-verdict2 .ensures) (c .before .before .before .before .before .before .put-rows2 .ensures)) (c .before .before .put-ring .ensures)) (stuck-text _ _ _ _ _ (c .before .before .before .before .before .before .before .before .before .before .before .before .before .before .verdict .given .1))
 
 -- src/lib.rt:155:26
 enum-known-verdict-2 : tie.Need-enum-known-verdict-2
@@ -74,7 +81,7 @@ same-length-3 c = search needs
 
 -- src/lib.rt:156:13
 returns-3 : tie.Need-returns-3
-returns-3 c = ?
+returns-3 c = laid-as (c .before .before .put-refused .ensures) (refused-text _ _ _ _ _ _ (c .before .before .before .before .before .verdict2 .given .1))
 
 pub print-spec : {M : Type 1} → statement M
 print-spec =

@@ -1,5 +1,7 @@
 -- `text::put_ring` meets its contract: three pieces behind each other.
 -- Assumes nothing.
+use mathlib.Core.Path.{sym}
+use lib.Seq.{length-take-le}
 use native.Mathlib.Omega.{arith}
 use Rattle.rules.specs.Text.{codes}
 use Rattle.rules.specs.TextLaws.{ring-part}
@@ -27,7 +29,7 @@ at-most-requires c κs = search needs
 
 -- src/lib.rt:136:39
 slice-aggregate-put-spaced : tie.Need-slice-aggregate-put-spaced
-slice-aggregate-put-spaced c = ?agg
+slice-aggregate-put-spaced c = sym (length-take-le _ _ (omega (arith, c .before .before .at-most .ensures)))
 
 -- src/lib.rt:136:9
 put-spaced-requires : tie.Need-put-spaced-requires

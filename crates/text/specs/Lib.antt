@@ -1,0 +1,2 @@
+-- The text of each of the three verdicts.
+pub mod VerdictLaws
