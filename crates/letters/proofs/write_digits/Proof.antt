@@ -5,8 +5,6 @@ use lib.ListN.{length-set}
 use Rattle.letters.specs.DigitLaws.{Writing, writing-start, writing-more, writing-last, writing-full}
 use Rattle.letters.proofs.write_digits.Statement.{statement}
 use Rattle.letters.proofs.write_digits.Tie as tie
-use Rattle.letters.proofs.write_digits.Reads as reads
-use Rattle.letters.proofs.write_digits.Lts as lts
 
 abbrev Inv-loop : tie.InvT-loop
 Inv-loop digits₀ n rest₀ at₀ digits rest at = Writing n digits₀ digits rest at
@@ -14,64 +12,41 @@ Inv-loop digits₀ n rest₀ at₀ digits rest at = Writing n digits₀ digits r
 abbrev μ-loop : tie.MeasureT-loop
 μ-loop digits₀ n rest₀ at₀ digits rest at = at
 
--- src/lib.rt:32:5
 loop-holds : tie.Need-loop-holds Inv-loop μ-loop
 loop-holds c = writing-start _ _
 
--- src/lib.rt:33:9
 sub-at : tie.Need-sub-at Inv-loop μ-loop
 sub-at c = omega arith
 
--- src/lib.rt:34:27
 cast-digits : tie.Need-cast-digits Inv-loop μ-loop
 cast-digits c = omega arith
 
--- src/lib.rt:34:22
 add-digits : tie.Need-add-digits Inv-loop μ-loop
 add-digits c = omega arith
 
--- src/lib.rt:34:9
 slice-write-digits : tie.Need-slice-write-digits Inv-loop μ-loop
 slice-write-digits c = omega (arith, c .before .loop .inv .long, c .before .loop .inv .inside)
 
--- src/lib.rt:37:13
 same-length : tie.Need-same-length Inv-loop μ-loop
 same-length c = simp length-set (c .before .before .loop .inv .long)
 
--- src/lib.rt:37:13
 returns : tie.Need-returns Inv-loop μ-loop
 returns c = writing-last _ (c .before .before .loop .inv) (c .before .loop-test .taken) (c .if1 .taken)
 
--- src/lib.rt:32:5
 loop-less : tie.Need-loop-less Inv-loop μ-loop
 loop-less c = omega arith
 
--- src/lib.rt:32:5
 loop-again : tie.Need-loop-again Inv-loop μ-loop
 loop-again c = writing-more _ (c .before .before .loop .inv) (c .before .loop-test .taken) (c .if1 .left)
 
--- src/lib.rt:27:1
 same-length-2 : tie.Need-same-length-2 Inv-loop μ-loop
 same-length-2 c = c .before .loop .inv .long
 
--- src/lib.rt:27:1
 returns-2 : tie.Need-returns-2 Inv-loop μ-loop
 returns-2 c = writing-full _ (c .before .loop .inv) (c .loop-test .left)
 
 pub write-digits-spec : {M : Type 1} → statement M
 write-digits-spec =
     tie.close
-    (tie.spec
-    Inv-loop
-    μ-loop
-    loop-holds
-    sub-at
-    cast-digits
-    add-digits
-    slice-write-digits
-    same-length
-    returns
-    loop-less
-    loop-again
-    same-length-2
-    returns-2)
+    (tie.spec Inv-loop μ-loop loop-holds sub-at cast-digits add-digits slice-write-digits same-length returns
+    loop-less loop-again same-length-2 returns-2)

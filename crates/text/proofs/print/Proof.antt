@@ -1,106 +1,68 @@
 -- `text::print` meets its contract: the lines of each verdict behind each other.
 -- Assumes nothing.
-use Rattle.rules.specs.Text.{codes}
-use Rattle.text.specs.VerdictLaws.{complete-text, stuck-text, refused-text}
-use Rattle.letters.specs.LayLaws.{laid-then, laid-as}
 use borrow.Author.Needs.{needs}
+use Rattle.rules.specs.Text.{codes}
+use Rattle.letters.specs.LayLaws.{laid-then, laid-as}
+use Rattle.text.specs.VerdictLaws.{complete-text, stuck-text, refused-text}
 use Rattle.text.proofs.print.Statement.{statement}
 use Rattle.text.proofs.print.Tie as tie
-use Rattle.text.proofs.print.Reads as reads
-use Rattle.text.proofs.print.Lts as lts
-use Rattle.text.proofs.put_refused.Reads as put-refused-reads
-use Rattle.text.proofs.put_ring.Reads as put-ring-reads
-use Rattle.text.proofs.put_rows.Reads as put-rows-reads
-use Rattle.text.proofs.put_verdict.Reads as put-verdict-reads
 
--- src/lib.rt:147:37
 enum-told : tie.Need-enum-told
 enum-told c = search needs
 
--- src/lib.rt:147:43
 slice-aggregate-put-verdict : tie.Need-slice-aggregate-put-verdict
 slice-aggregate-put-verdict c = search needs
 
--- src/lib.rt:147:17
 put-verdict-requires : tie.Need-put-verdict-requires
 put-verdict-requires c κs = search needs
 
--- src/lib.rt:148:13
 put-rows-requires : tie.Need-put-rows-requires
 put-rows-requires c κs = search needs
 
--- src/lib.rt:148:13
 same-length : tie.Need-same-length
 same-length c = search needs
 
--- src/lib.rt:148:13
 returns : tie.Need-returns
 unfolding codes
 returns c = laid-as (laid-then (c .before .before .before .before .before .before .put-verdict .ensures) (c .before .before .put-rows .ensures)) (complete-text _ _ _ _ (c .before .before .before .before .before .before .before .before .before .enum-told .given .1))
 
--- src/lib.rt:150:24
 enum-known-verdict : tie.Need-enum-known-verdict
 enum-known-verdict c = search needs
 
--- src/lib.rt:151:43
 slice-aggregate-put-verdict-2 : tie.Need-slice-aggregate-put-verdict-2
 slice-aggregate-put-verdict-2 c = search needs
 
--- src/lib.rt:151:17
 put-verdict-requires-2 : tie.Need-put-verdict-requires-2
 put-verdict-requires-2 c κs = search needs
 
--- src/lib.rt:152:17
 put-rows-requires-2 : tie.Need-put-rows-requires-2
 put-rows-requires-2 c κs = search needs
 
--- src/lib.rt:153:13
 put-ring-requires : tie.Need-put-ring-requires
 put-ring-requires c κs = search needs
 
--- src/lib.rt:153:13
 same-length-2 : tie.Need-same-length-2
 same-length-2 c = search needs
 
--- src/lib.rt:153:13
 returns-2 : tie.Need-returns-2
 unfolding codes
 returns-2 c = laid-as (laid-then (laid-then (c .before .before .before .before .before .before .before .before .before .before .put-verdict2 .ensures) (c .before .before .before .before .before .before .put-rows2 .ensures)) (c .before .before .put-ring .ensures)) (stuck-text _ _ _ _ _ (c .before .before .before .before .before .before .before .before .before .before .before .before .before .before .verdict .given .1))
 
--- src/lib.rt:155:26
 enum-known-verdict-2 : tie.Need-enum-known-verdict-2
 enum-known-verdict-2 c = search needs
 
--- src/lib.rt:156:13
 put-refused-requires : tie.Need-put-refused-requires
 put-refused-requires c κs = search needs
 
--- src/lib.rt:156:13
 same-length-3 : tie.Need-same-length-3
 same-length-3 c = search needs
 
--- src/lib.rt:156:13
 returns-3 : tie.Need-returns-3
 returns-3 c = laid-as (c .before .before .put-refused .ensures) (refused-text _ _ _ _ _ _ (c .before .before .before .before .before .verdict2 .given .1))
 
 pub print-spec : {M : Type 1} → statement M
 print-spec =
     tie.close
-    (tie.spec
-    enum-told
-    slice-aggregate-put-verdict
-    put-verdict-requires
-    put-rows-requires
-    same-length
-    returns
-    enum-known-verdict
-    slice-aggregate-put-verdict-2
-    put-verdict-requires-2
-    put-rows-requires-2
-    put-ring-requires
-    same-length-2
-    returns-2
-    enum-known-verdict-2
-    put-refused-requires
-    same-length-3
-    returns-3)
+    (tie.spec enum-told slice-aggregate-put-verdict put-verdict-requires put-rows-requires same-length returns
+    enum-known-verdict slice-aggregate-put-verdict-2 put-verdict-requires-2 put-rows-requires-2 put-ring-requires
+    same-length-2 returns-2 enum-known-verdict-2 put-refused-requires same-length-3 returns-3)

@@ -1,73 +1,52 @@
 -- `text::put_path` meets its contract: rank 0 is no path.
 -- Assumes nothing.
+use borrow.Author.Needs.{needs}
 use Rattle.rules.specs.Text.{codes, labelled}
 use Rattle.rules.specs.TextLaws.{path-none, path-some}
 use Rattle.letters.specs.LayLaws.{laid-then, laid-as}
-use borrow.Author.Needs.{needs}
 use Rattle.text.proofs.put_path.Statement.{statement}
 use Rattle.text.proofs.put_path.Tie as tie
-use Rattle.text.proofs.put_path.Reads as reads
-use Rattle.text.proofs.put_path.Lts as lts
-use Rattle.letters.proofs.put.Reads as put-reads
-use Rattle.parts.proofs.byte_at.Reads as byte-at-reads
-use Rattle.text.proofs.path_in.Reads as path-in-reads
-use Rattle.text.proofs.put_labelled.Reads as put-labelled-reads
-use Rattle.text.proofs.put_spaced.Reads as put-spaced-reads
 
--- src/lib.rt:95:9
 byte-at-requires : tie.Need-byte-at-requires
 byte-at-requires c κs = search needs
 
--- src/lib.rt:97:30
 slice-aggregate-put : tie.Need-slice-aggregate-put
 slice-aggregate-put c = search needs
 
--- src/lib.rt:97:9
 put-requires : tie.Need-put-requires
 put-requires c κs = search needs
 
--- src/lib.rt:97:9
 same-length : tie.Need-same-length
 same-length c = search needs
 
--- src/lib.rt:97:9
 returns : tie.Need-returns
 unfolding codes
 returns c = laid-as (c .before .before .put .ensures) (path-none _ _ (c .before .before .before .before .before .before .byte-at .ensures) (c .before .before .before .before .before .if1 .taken))
 
--- src/lib.rt:99:39
 slice-aggregate-put-labelled : tie.Need-slice-aggregate-put-labelled
 slice-aggregate-put-labelled c = search needs
 
--- src/lib.rt:99:50
 cast-put-labelled : tie.Need-cast-put-labelled
 cast-put-labelled c = search needs
 
--- src/lib.rt:99:9
 put-labelled-requires : tie.Need-put-labelled-requires
 put-labelled-requires c κs = search needs
 
--- src/lib.rt:100:32
 slice-aggregate-put-2 : tie.Need-slice-aggregate-put-2
 slice-aggregate-put-2 c = search needs
 
--- src/lib.rt:100:9
 put-requires-2 : tie.Need-put-requires-2
 put-requires-2 c κs = search needs
 
--- src/lib.rt:101:28
 path-in-requires : tie.Need-path-in-requires
 path-in-requires c κs = search needs
 
--- src/lib.rt:101:5
 put-spaced-requires : tie.Need-put-spaced-requires
 put-spaced-requires c κs = search needs
 
--- src/lib.rt:92:1
 same-length-2 : tie.Need-same-length-2
 same-length-2 c = search needs
 
--- src/lib.rt:92:1
 returns-2 : tie.Need-returns-2
 unfolding codes labelled
 returns-2 c =
@@ -79,18 +58,6 @@ returns-2 c =
 pub put-path-spec : {M : Type 1} → statement M
 put-path-spec =
     tie.close
-    (tie.spec
-    byte-at-requires
-    slice-aggregate-put
-    put-requires
-    same-length
-    returns
-    slice-aggregate-put-labelled
-    cast-put-labelled
-    put-labelled-requires
-    slice-aggregate-put-2
-    put-requires-2
-    path-in-requires
-    put-spaced-requires
-    same-length-2
-    returns-2)
+    (tie.spec byte-at-requires slice-aggregate-put put-requires same-length returns slice-aggregate-put-labelled
+    cast-put-labelled put-labelled-requires slice-aggregate-put-2 put-requires-2 path-in-requires
+    put-spaced-requires same-length-2 returns-2)

@@ -1,53 +1,39 @@
 -- `text::put_ring` meets its contract: three pieces behind each other.
 -- Assumes nothing.
 use mathlib.Core.Path.{sym}
-use lib.Seq.{length-take-le}
 use native.Mathlib.Omega.{arith}
+use borrow.Author.Needs.{needs}
+use lib.Seq.{length-take-le}
 use Rattle.rules.specs.Text.{codes}
 use Rattle.rules.specs.TextLaws.{ring-part}
 use Rattle.letters.specs.LayLaws.{laid-then, laid-as}
-use borrow.Author.Needs.{needs}
 use Rattle.text.proofs.put_ring.Statement.{statement}
 use Rattle.text.proofs.put_ring.Tie as tie
-use Rattle.text.proofs.put_ring.Reads as reads
-use Rattle.text.proofs.put_ring.Lts as lts
-use Rattle.letters.proofs.put.Reads as put-reads
-use Rattle.parts.proofs.at_most.Reads as at-most-reads
-use Rattle.text.proofs.put_spaced.Reads as put-spaced-reads
 
--- src/lib.rt:134:30
 slice-aggregate-put : tie.Need-slice-aggregate-put
 slice-aggregate-put c = search needs
 
--- src/lib.rt:134:9
 put-requires : tie.Need-put-requires
 put-requires c κs = search needs
 
--- src/lib.rt:135:9
 at-most-requires : tie.Need-at-most-requires
 at-most-requires c κs = search needs
 
--- src/lib.rt:136:39
 slice-aggregate-put-spaced : tie.Need-slice-aggregate-put-spaced
 slice-aggregate-put-spaced c = sym (length-take-le _ _ (omega (arith, c .before .before .at-most .ensures)))
 
--- src/lib.rt:136:9
 put-spaced-requires : tie.Need-put-spaced-requires
 put-spaced-requires c κs = search needs
 
--- src/lib.rt:137:21
 slice-aggregate-put-2 : tie.Need-slice-aggregate-put-2
 slice-aggregate-put-2 c = search needs
 
--- src/lib.rt:137:5
 put-requires-2 : tie.Need-put-requires-2
 put-requires-2 c κs = search needs
 
--- src/lib.rt:131:1
 same-length : tie.Need-same-length
 same-length c = search needs
 
--- src/lib.rt:131:1
 returns : tie.Need-returns
 unfolding codes
 returns c = laid-as (laid-then (laid-then (c .before .before .before .before .before .before .before .before .before .before .before .before .before .put .ensures) (c .before .before .before .before .before .before .before .put-spaced .ensures)) (c .before .before .put2 .ensures)) (ring-part _ _ _ (c .before .before .before .before .before .before .before .before .before .before .at-most .ensures))
@@ -55,13 +41,5 @@ returns c = laid-as (laid-then (laid-then (c .before .before .before .before .be
 pub put-ring-spec : {M : Type 1} → statement M
 put-ring-spec =
     tie.close
-    (tie.spec
-    slice-aggregate-put
-    put-requires
-    at-most-requires
-    slice-aggregate-put-spaced
-    put-spaced-requires
-    slice-aggregate-put-2
-    put-requires-2
-    same-length
-    returns)
+    (tie.spec slice-aggregate-put put-requires at-most-requires slice-aggregate-put-spaced put-spaced-requires
+    slice-aggregate-put-2 put-requires-2 same-length returns)

@@ -1,52 +1,36 @@
 -- `text::put_row` meets its contract: 254 is absent; otherwise four pieces behind each other.
 -- Assumes nothing.
+use borrow.Author.Needs.{needs}
 use Rattle.rules.specs.Text.{codes}
 use Rattle.rules.specs.TextLaws.{row-absent, row-present}
 use Rattle.letters.specs.LayLaws.{laid-then, laid-nothing, laid-as}
-use borrow.Author.Needs.{needs}
 use Rattle.text.proofs.put_row.Statement.{statement}
 use Rattle.text.proofs.put_row.Tie as tie
-use Rattle.text.proofs.put_row.Reads as reads
-use Rattle.text.proofs.put_row.Lts as lts
-use Rattle.letters.proofs.put.Reads as put-reads
-use Rattle.letters.proofs.put_number.Reads as put-number-reads
-use Rattle.parts.proofs.byte_at.Reads as byte-at-reads
-use Rattle.text.proofs.put_path.Reads as put-path-reads
-use Rattle.text.proofs.put_stage.Reads as put-stage-reads
 
--- src/lib.rt:108:8
 byte-at-requires : tie.Need-byte-at-requires
 byte-at-requires c κs = search needs
 
--- src/lib.rt:109:9
 returns : tie.Need-returns
 returns c = laid-as (laid-nothing _ _) (row-absent _ _ _ (c .before .byte-at .ensures) (c .if1 .taken))
 
--- src/lib.rt:111:9
 put-number-requires : tie.Need-put-number-requires
 put-number-requires c κs = search needs
 
--- src/lib.rt:112:9
 put-stage-requires : tie.Need-put-stage-requires
 put-stage-requires c κs = search needs
 
--- src/lib.rt:113:9
 put-path-requires : tie.Need-put-path-requires
 put-path-requires c κs = search needs
 
--- src/lib.rt:114:23
 slice-aggregate-put : tie.Need-slice-aggregate-put
 slice-aggregate-put c = search needs
 
--- src/lib.rt:114:5
 put-requires : tie.Need-put-requires
 put-requires c κs = search needs
 
--- src/lib.rt:105:1
 same-length : tie.Need-same-length
 same-length c = search needs
 
--- src/lib.rt:105:1
 returns-2 : tie.Need-returns-2
 unfolding codes
 returns-2 c =
@@ -59,13 +43,5 @@ returns-2 c =
 pub put-row-spec : {M : Type 1} → statement M
 put-row-spec =
     tie.close
-    (tie.spec
-    byte-at-requires
-    returns
-    put-number-requires
-    put-stage-requires
-    put-path-requires
-    slice-aggregate-put
-    put-requires
-    same-length
-    returns-2)
+    (tie.spec byte-at-requires returns put-number-requires put-stage-requires put-path-requires slice-aggregate-put
+    put-requires same-length returns-2)

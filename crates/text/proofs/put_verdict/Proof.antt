@@ -1,85 +1,63 @@
 -- `text::put_verdict` meets its contract: seven pieces behind each other.
 -- Assumes nothing.
+use borrow.Author.Needs.{needs}
 use Rattle.rules.specs.Text.{codes, labelled, verdictLine}
 use Rattle.answer.specs.Meaning.{numbers}
 use Rattle.letters.specs.LayLaws.{laid-then, laid-length}
-use borrow.Author.Needs.{needs}
 use Rattle.text.proofs.put_verdict.Statement.{statement}
 use Rattle.text.proofs.put_verdict.Tie as tie
-use Rattle.text.proofs.put_verdict.Reads as reads
-use Rattle.text.proofs.put_verdict.Lts as lts
-use Rattle.letters.proofs.put.Reads as put-reads
-use Rattle.text.proofs.put_labelled.Reads as put-labelled-reads
 
--- src/lib.rt:59:30
 slice-aggregate-put : tie.Need-slice-aggregate-put
 slice-aggregate-put c = search needs
 
--- src/lib.rt:59:9
 put-requires : tie.Need-put-requires
 put-requires c κs = search needs
 
--- src/lib.rt:60:9
 put-requires-2 : tie.Need-put-requires-2
 put-requires-2 c κs = search needs
 
--- src/lib.rt:61:45
 slice-aggregate-put-labelled : tie.Need-slice-aggregate-put-labelled
 slice-aggregate-put-labelled c = search needs
 
--- src/lib.rt:61:59
 cast-put-labelled : tie.Need-cast-put-labelled
 cast-put-labelled c = search needs
 
--- src/lib.rt:61:9
 put-labelled-requires : tie.Need-put-labelled-requires
 put-labelled-requires c κs = search needs
 
--- src/lib.rt:62:45
 slice-aggregate-put-labelled-2 : tie.Need-slice-aggregate-put-labelled-2
 slice-aggregate-put-labelled-2 c = search needs
 
--- src/lib.rt:62:57
 cast-put-labelled-2 : tie.Need-cast-put-labelled-2
 cast-put-labelled-2 c = search needs
 
--- src/lib.rt:62:9
 put-labelled-requires-2 : tie.Need-put-labelled-requires-2
 put-labelled-requires-2 c κs = search needs
 
--- src/lib.rt:63:44
 slice-aggregate-put-labelled-3 : tie.Need-slice-aggregate-put-labelled-3
 slice-aggregate-put-labelled-3 c = search needs
 
--- src/lib.rt:63:57
 cast-put-labelled-3 : tie.Need-cast-put-labelled-3
 cast-put-labelled-3 c = search needs
 
--- src/lib.rt:63:9
 put-labelled-requires-3 : tie.Need-put-labelled-requires-3
 put-labelled-requires-3 c κs = search needs
 
--- src/lib.rt:64:46
 slice-aggregate-put-labelled-4 : tie.Need-slice-aggregate-put-labelled-4
 slice-aggregate-put-labelled-4 c = search needs
 
--- src/lib.rt:64:60
 cast-put-labelled-4 : tie.Need-cast-put-labelled-4
 cast-put-labelled-4 c = search needs
 
--- src/lib.rt:64:9
 put-labelled-requires-4 : tie.Need-put-labelled-requires-4
 put-labelled-requires-4 c κs = search needs
 
--- src/lib.rt:65:24
 slice-aggregate-put-2 : tie.Need-slice-aggregate-put-2
 slice-aggregate-put-2 c = search needs
 
--- src/lib.rt:65:5
 put-requires-3 : tie.Need-put-requires-3
 put-requires-3 c κs = search needs
 
--- src/lib.rt:56:1
 returns : tie.Need-returns
 unfolding codes labelled verdictLine numbers
 returns c =
@@ -97,23 +75,7 @@ same-length c = laid-length (returns c)
 pub put-verdict-spec : {M : Type 1} → statement M
 put-verdict-spec =
     tie.close
-    (tie.spec
-    slice-aggregate-put
-    put-requires
-    put-requires-2
-    slice-aggregate-put-labelled
-    cast-put-labelled
-    put-labelled-requires
-    slice-aggregate-put-labelled-2
-    cast-put-labelled-2
-    put-labelled-requires-2
-    slice-aggregate-put-labelled-3
-    cast-put-labelled-3
-    put-labelled-requires-3
-    slice-aggregate-put-labelled-4
-    cast-put-labelled-4
-    put-labelled-requires-4
-    slice-aggregate-put-2
-    put-requires-3
-    same-length
-    returns)
+    (tie.spec slice-aggregate-put put-requires put-requires-2 slice-aggregate-put-labelled cast-put-labelled
+    put-labelled-requires slice-aggregate-put-labelled-2 cast-put-labelled-2 put-labelled-requires-2
+    slice-aggregate-put-labelled-3 cast-put-labelled-3 put-labelled-requires-3 slice-aggregate-put-labelled-4
+    cast-put-labelled-4 put-labelled-requires-4 slice-aggregate-put-2 put-requires-3 same-length returns)
