@@ -2,7 +2,7 @@
 -- Assumes nothing.
 use borrow.Author.Needs.{needs}
 use Rattle.rules.specs.Text.{codes}
-use Rattle.letters.specs.LayLaws.{laid-then, laid-as}
+use Rattle.letters.specs.LayLaws.{laid-then, laid-as, laid-length}
 use Rattle.text.specs.VerdictLaws.{complete-text, stuck-text, refused-text}
 use Rattle.text.proofs.print.Statement.{statement}
 use Rattle.text.proofs.print.Tie as tie
@@ -19,12 +19,12 @@ put-verdict-requires c κs = search needs
 put-rows-requires : tie.Need-put-rows-requires
 put-rows-requires c κs = search needs
 
-same-length : tie.Need-same-length
-same-length c = search needs
-
 returns : tie.Need-returns
 unfolding codes
 returns c = laid-as (laid-then (c .before .before .before .before .before .before .put-verdict .ensures) (c .before .before .put-rows .ensures)) (complete-text _ _ _ _ (c .before .before .before .before .before .before .before .before .before .enum-told .given .1))
+
+same-length : tie.Need-same-length
+same-length c = laid-length (returns c)
 
 enum-known-verdict : tie.Need-enum-known-verdict
 enum-known-verdict c = search needs
@@ -41,12 +41,12 @@ put-rows-requires-2 c κs = search needs
 put-ring-requires : tie.Need-put-ring-requires
 put-ring-requires c κs = search needs
 
-same-length-2 : tie.Need-same-length-2
-same-length-2 c = search needs
-
 returns-2 : tie.Need-returns-2
 unfolding codes
 returns-2 c = laid-as (laid-then (laid-then (c .before .before .before .before .before .before .before .before .before .before .put-verdict2 .ensures) (c .before .before .before .before .before .before .put-rows2 .ensures)) (c .before .before .put-ring .ensures)) (stuck-text _ _ _ _ _ (c .before .before .before .before .before .before .before .before .before .before .before .before .before .before .verdict .given .1))
+
+same-length-2 : tie.Need-same-length-2
+same-length-2 c = laid-length (returns-2 c)
 
 enum-known-verdict-2 : tie.Need-enum-known-verdict-2
 enum-known-verdict-2 c = search needs
@@ -54,11 +54,11 @@ enum-known-verdict-2 c = search needs
 put-refused-requires : tie.Need-put-refused-requires
 put-refused-requires c κs = search needs
 
-same-length-3 : tie.Need-same-length-3
-same-length-3 c = search needs
-
 returns-3 : tie.Need-returns-3
 returns-3 c = laid-as (c .before .before .put-refused .ensures) (refused-text _ _ _ _ _ _ (c .before .before .before .before .before .verdict2 .given .1))
+
+same-length-3 : tie.Need-same-length-3
+same-length-3 c = laid-length (returns-3 c)
 
 pub print-spec : {M : Type 1} → statement M
 print-spec =

@@ -3,7 +3,7 @@
 use borrow.Author.Needs.{needs}
 use Rattle.rules.specs.Text.{codes, labelled}
 use Rattle.rules.specs.TextLaws.{path-none, path-some}
-use Rattle.letters.specs.LayLaws.{laid-then, laid-as}
+use Rattle.letters.specs.LayLaws.{laid-then, laid-as, laid-length}
 use Rattle.text.proofs.put_path.Statement.{statement}
 use Rattle.text.proofs.put_path.Tie as tie
 
@@ -16,12 +16,12 @@ slice-aggregate-put c = search needs
 put-requires : tie.Need-put-requires
 put-requires c κs = search needs
 
-same-length : tie.Need-same-length
-same-length c = search needs
-
 returns : tie.Need-returns
 unfolding codes
 returns c = laid-as (c .before .before .put .ensures) (path-none _ _ (c .before .before .before .before .before .before .byte-at .ensures) (c .before .before .before .before .before .if1 .taken))
+
+same-length : tie.Need-same-length
+same-length c = laid-length (returns c)
 
 slice-aggregate-put-labelled : tie.Need-slice-aggregate-put-labelled
 slice-aggregate-put-labelled c = search needs
@@ -44,9 +44,6 @@ path-in-requires c κs = search needs
 put-spaced-requires : tie.Need-put-spaced-requires
 put-spaced-requires c κs = search needs
 
-same-length-2 : tie.Need-same-length-2
-same-length-2 c = search needs
-
 returns-2 : tie.Need-returns-2
 unfolding codes labelled
 returns-2 c =
@@ -54,6 +51,9 @@ returns-2 c =
     let ranked = routed .before .before .before .before .before in
     laid-as (laid-then (laid-then (ranked .put-labelled .ensures) (routed .put2 .ensures)) (c .before .before .put-spaced .ensures))
     (path-some _ _ _ (ranked .before .before .before .before .byte-at .ensures) (ranked .before .before .before .if1 .left) (c .before .before .before .path-in .ensures))
+
+same-length-2 : tie.Need-same-length-2
+same-length-2 c = laid-length (returns-2 c)
 
 pub put-path-spec : {M : Type 1} → statement M
 put-path-spec =

@@ -3,7 +3,7 @@
 use borrow.Author.Needs.{needs}
 use Rattle.rules.specs.Text.{codes, labelled}
 use Rattle.rules.specs.TextLaws.{record-none, record-some}
-use Rattle.letters.specs.LayLaws.{laid-nothing, laid-as}
+use Rattle.letters.specs.LayLaws.{laid-nothing, laid-as, laid-length}
 use Rattle.text.proofs.put_record.Statement.{statement}
 use Rattle.text.proofs.put_record.Tie as tie
 
@@ -16,12 +16,12 @@ slice-aggregate-put-labelled c = search needs
 put-labelled-requires : tie.Need-put-labelled-requires
 put-labelled-requires c κs = search needs
 
-same-length : tie.Need-same-length
-same-length c = search needs
-
 returns-2 : tie.Need-returns-2
 unfolding codes labelled
 returns-2 c = laid-as (c .before .before .put-labelled .ensures) (record-some _ _ (c .before .before .before .before .before .if1 .left))
+
+same-length : tie.Need-same-length
+same-length c = laid-length (returns-2 c)
 
 pub put-record-spec : {M : Type 1} → statement M
 put-record-spec =

@@ -2,7 +2,7 @@
 -- Assumes nothing.
 use borrow.Author.Needs.{needs}
 use Rattle.rules.specs.Text.{codes, labelled, refusedLine}
-use Rattle.letters.specs.LayLaws.{laid-then}
+use Rattle.letters.specs.LayLaws.{laid-then, laid-length}
 use Rattle.text.proofs.put_refused.Statement.{statement}
 use Rattle.text.proofs.put_refused.Tie as tie
 
@@ -21,12 +21,12 @@ slice-aggregate-put c = search needs
 put-requires : tie.Need-put-requires
 put-requires c κs = search needs
 
-same-length : tie.Need-same-length
-same-length c = search needs
-
 returns : tie.Need-returns
 unfolding codes labelled refusedLine
 returns c = laid-then (laid-then (c .before .before .before .before .before .before .before .before .before .before .before .put-labelled .ensures) (c .before .before .before .before .before .before .before .put-record .ensures)) (c .before .before .put .ensures)
+
+same-length : tie.Need-same-length
+same-length c = laid-length (returns c)
 
 pub put-refused-spec : {M : Type 1} → statement M
 put-refused-spec =

@@ -6,7 +6,7 @@ use borrow.Author.Needs.{needs}
 use lib.Seq.{length-take-le}
 use Rattle.rules.specs.Text.{codes}
 use Rattle.rules.specs.TextLaws.{ring-part}
-use Rattle.letters.specs.LayLaws.{laid-then, laid-as}
+use Rattle.letters.specs.LayLaws.{laid-then, laid-as, laid-length}
 use Rattle.text.proofs.put_ring.Statement.{statement}
 use Rattle.text.proofs.put_ring.Tie as tie
 
@@ -31,12 +31,12 @@ slice-aggregate-put-2 c = search needs
 put-requires-2 : tie.Need-put-requires-2
 put-requires-2 c κs = search needs
 
-same-length : tie.Need-same-length
-same-length c = search needs
-
 returns : tie.Need-returns
 unfolding codes
 returns c = laid-as (laid-then (laid-then (c .before .before .before .before .before .before .before .before .before .before .before .before .before .put .ensures) (c .before .before .before .before .before .before .before .put-spaced .ensures)) (c .before .before .put2 .ensures)) (ring-part _ _ _ (c .before .before .before .before .before .before .before .before .before .before .at-most .ensures))
+
+same-length : tie.Need-same-length
+same-length c = laid-length (returns c)
 
 pub put-ring-spec : {M : Type 1} → statement M
 put-ring-spec =

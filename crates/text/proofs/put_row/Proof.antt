@@ -3,7 +3,7 @@
 use borrow.Author.Needs.{needs}
 use Rattle.rules.specs.Text.{codes}
 use Rattle.rules.specs.TextLaws.{row-absent, row-present}
-use Rattle.letters.specs.LayLaws.{laid-then, laid-nothing, laid-as}
+use Rattle.letters.specs.LayLaws.{laid-then, laid-nothing, laid-as, laid-length}
 use Rattle.text.proofs.put_row.Statement.{statement}
 use Rattle.text.proofs.put_row.Tie as tie
 
@@ -28,9 +28,6 @@ slice-aggregate-put c = search needs
 put-requires : tie.Need-put-requires
 put-requires c κs = search needs
 
-same-length : tie.Need-same-length
-same-length c = search needs
-
 returns-2 : tie.Need-returns-2
 unfolding codes
 returns-2 c =
@@ -39,6 +36,9 @@ returns-2 c =
     let number = stage .before .before .before .before in
     laid-as (laid-then (laid-then (laid-then (number .put-number .ensures) (stage .put-stage .ensures)) (path .put-path .ensures)) (c .before .before .put .ensures))
     (row-present _ _ _ (number .before .before .before .byte-at .ensures) (number .before .before .if1 .left))
+
+same-length : tie.Need-same-length
+same-length c = laid-length (returns-2 c)
 
 pub put-row-spec : {M : Type 1} → statement M
 put-row-spec =

@@ -3,7 +3,7 @@
 use borrow.Author.Needs.{needs}
 use Rattle.rules.specs.Text.{codes, labelled}
 use Rattle.rules.specs.TextLaws.{stage-stuck, stage-some}
-use Rattle.letters.specs.LayLaws.{laid-as}
+use Rattle.letters.specs.LayLaws.{laid-as, laid-length}
 use Rattle.text.proofs.put_stage.Statement.{statement}
 use Rattle.text.proofs.put_stage.Tie as tie
 
@@ -16,12 +16,12 @@ slice-aggregate-put c = search needs
 put-requires : tie.Need-put-requires
 put-requires c κs = search needs
 
-same-length : tie.Need-same-length
-same-length c = search needs
-
 returns : tie.Need-returns
 unfolding codes
 returns c = laid-as (c .before .before .put .ensures) (stage-stuck _ _ (c .before .before .before .before .before .before .byte-at .ensures) (c .before .before .before .before .before .if1 .taken))
+
+same-length : tie.Need-same-length
+same-length c = laid-length (returns c)
 
 slice-aggregate-put-labelled : tie.Need-slice-aggregate-put-labelled
 slice-aggregate-put-labelled c = search needs
@@ -32,12 +32,12 @@ cast-put-labelled c = search needs
 put-labelled-requires : tie.Need-put-labelled-requires
 put-labelled-requires c κs = search needs
 
-same-length-2 : tie.Need-same-length-2
-same-length-2 c = search needs
-
 returns-2 : tie.Need-returns-2
 unfolding codes labelled
 returns-2 c = laid-as (c .before .before .put-labelled .ensures) (stage-some _ _ (c .before .before .before .before .before .before .byte-at .ensures) (c .before .before .before .before .before .if1 .left))
+
+same-length-2 : tie.Need-same-length-2
+same-length-2 c = laid-length (returns-2 c)
 
 pub put-stage-spec : {M : Type 1} → statement M
 put-stage-spec =
