@@ -1,5 +1,6 @@
 -- `text::put_path` meets its contract: rank 0 is no path.
 -- Assumes nothing.
+use native.Mathlib.Omega.{arith}
 use borrow.Author.Needs.{needs}
 use Rattle.rules.specs.Text.{codes, labelled}
 use Rattle.rules.specs.TextLaws.{path-none, path-some}
@@ -18,7 +19,7 @@ put-requires c κs = search needs
 
 returns : tie.Need-returns
 unfolding codes
-returns c = laid-as (c .before .before .put .ensures) (path-none _ _ (c .before .before .before .before .before .before .byte-at .ensures) (c .before .before .before .before .before .if1 .taken))
+returns c = laid-as (c .before .before .put .ensures) (path-none _ _ (c .before .before .before .before .before .before .byte-at .ensures) (omega arith))
 
 same-length : tie.Need-same-length
 same-length c = laid-length (returns c)
@@ -50,7 +51,7 @@ returns-2 c =
     let routed = c .before .before .before .before .before .before .before in
     let ranked = routed .before .before .before .before .before in
     laid-as (laid-then (laid-then (ranked .put-labelled .ensures) (routed .put2 .ensures)) (c .before .before .put-spaced .ensures))
-    (path-some _ _ _ (ranked .before .before .before .before .byte-at .ensures) (ranked .before .before .before .if1 .left) (c .before .before .before .path-in .ensures))
+    (path-some _ _ _ (ranked .before .before .before .before .byte-at .ensures) (λ e. omega arith) (c .before .before .before .path-in .ensures))
 
 same-length-2 : tie.Need-same-length-2
 same-length-2 c = laid-length (returns-2 c)

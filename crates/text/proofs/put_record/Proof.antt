@@ -1,5 +1,6 @@
 -- `text::put_record` meets its contract: the refusals below 4 concern no record.
 -- Assumes nothing.
+use native.Mathlib.Omega.{arith}
 use borrow.Author.Needs.{needs}
 use Rattle.rules.specs.Text.{codes, labelled}
 use Rattle.rules.specs.TextLaws.{record-none, record-some}
@@ -8,7 +9,7 @@ use Rattle.text.proofs.put_record.Statement.{statement}
 use Rattle.text.proofs.put_record.Tie as tie
 
 returns : tie.Need-returns
-returns c = laid-as (laid-nothing _ _) (record-none _ _ (c .if1 .taken))
+returns c = laid-as (laid-nothing _ _) (record-none _ _ (omega arith))
 
 slice-aggregate-put-labelled : tie.Need-slice-aggregate-put-labelled
 slice-aggregate-put-labelled c = search needs
@@ -18,7 +19,7 @@ put-labelled-requires c κs = search needs
 
 returns-2 : tie.Need-returns-2
 unfolding codes labelled
-returns-2 c = laid-as (c .before .before .put-labelled .ensures) (record-some _ _ (c .before .before .before .before .before .if1 .left))
+returns-2 c = laid-as (c .before .before .put-labelled .ensures) (record-some _ _ (omega arith))
 
 same-length : tie.Need-same-length
 same-length c = laid-length (returns-2 c)

@@ -1,5 +1,6 @@
 -- `text::put_row` meets its contract: 254 is absent; otherwise four pieces behind each other.
 -- Assumes nothing.
+use native.Mathlib.Omega.{arith}
 use borrow.Author.Needs.{needs}
 use Rattle.rules.specs.Text.{codes}
 use Rattle.rules.specs.TextLaws.{row-absent, row-present}
@@ -11,7 +12,7 @@ byte-at-requires : tie.Need-byte-at-requires
 byte-at-requires c κs = search needs
 
 returns : tie.Need-returns
-returns c = laid-as (laid-nothing _ _) (row-absent _ _ _ (c .before .byte-at .ensures) (c .if1 .taken))
+returns c = laid-as (laid-nothing _ _) (row-absent _ _ _ (c .before .byte-at .ensures) (omega arith))
 
 put-number-requires : tie.Need-put-number-requires
 put-number-requires c κs = search needs
@@ -35,7 +36,7 @@ returns-2 c =
     let stage = path .before .before .before .before in
     let number = stage .before .before .before .before in
     laid-as (laid-then (laid-then (laid-then (number .put-number .ensures) (stage .put-stage .ensures)) (path .put-path .ensures)) (c .before .before .put .ensures))
-    (row-present _ _ _ (number .before .before .before .byte-at .ensures) (number .before .before .if1 .left))
+    (row-present _ _ _ (number .before .before .before .byte-at .ensures) (λ e. omega arith))
 
 same-length : tie.Need-same-length
 same-length c = laid-length (returns-2 c)

@@ -1,5 +1,6 @@
 -- `text::put_stage` meets its contract: 255 is stuck, another byte a stage.
 -- Assumes nothing.
+use native.Mathlib.Omega.{arith}
 use borrow.Author.Needs.{needs}
 use Rattle.rules.specs.Text.{codes, labelled}
 use Rattle.rules.specs.TextLaws.{stage-stuck, stage-some}
@@ -18,7 +19,7 @@ put-requires c κs = search needs
 
 returns : tie.Need-returns
 unfolding codes
-returns c = laid-as (c .before .before .put .ensures) (stage-stuck _ _ (c .before .before .before .before .before .before .byte-at .ensures) (c .before .before .before .before .before .if1 .taken))
+returns c = laid-as (c .before .before .put .ensures) (stage-stuck _ _ (c .before .before .before .before .before .before .byte-at .ensures) (omega arith))
 
 same-length : tie.Need-same-length
 same-length c = laid-length (returns c)
@@ -34,7 +35,7 @@ put-labelled-requires c κs = search needs
 
 returns-2 : tie.Need-returns-2
 unfolding codes labelled
-returns-2 c = laid-as (c .before .before .put-labelled .ensures) (stage-some _ _ (c .before .before .before .before .before .before .byte-at .ensures) (c .before .before .before .before .before .if1 .left))
+returns-2 c = laid-as (c .before .before .put-labelled .ensures) (stage-some _ _ (c .before .before .before .before .before .before .byte-at .ensures) (λ e. omega arith))
 
 same-length-2 : tie.Need-same-length-2
 same-length-2 c = laid-length (returns-2 c)
