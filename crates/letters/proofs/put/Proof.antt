@@ -20,7 +20,7 @@ same-length : tie.Need-same-length Inv-loop μ-loop
 same-length c = c .before .before .loop .inv .long
 
 returns : tie.Need-returns Inv-loop μ-loop
-returns c = laying-full (c .before .before .loop .inv) (c .if1 .taken)
+returns c = laying-full (c .before .before .loop .inv) (omega arith)
 
 shared-slice-read-text : tie.Need-shared-slice-read-text Inv-loop μ-loop
 shared-slice-read-text c = omega arith

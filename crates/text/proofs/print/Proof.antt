@@ -21,7 +21,10 @@ put-rows-requires c κs = search needs
 
 returns : tie.Need-returns
 unfolding codes
-returns c = laid-as (laid-then (c .before .before .before .before .before .before .put-verdict .ensures) (c .before .before .put-rows .ensures)) (complete-text _ _ _ _ (c .before .before .before .before .before .before .before .before .before .enum-told .given .1))
+returns c =
+    let first = c .before .before .before .before .before .before in
+    laid-as (laid-then (first .put-verdict .ensures) (c .before .before .put-rows .ensures))
+    (complete-text _ _ _ _ (first .before .before .before .enum-told .given .1))
 
 same-length : tie.Need-same-length
 same-length c = laid-length (returns c)
@@ -43,7 +46,11 @@ put-ring-requires c κs = search needs
 
 returns-2 : tie.Need-returns-2
 unfolding codes
-returns-2 c = laid-as (laid-then (laid-then (c .before .before .before .before .before .before .before .before .before .before .put-verdict2 .ensures) (c .before .before .before .before .before .before .put-rows2 .ensures)) (c .before .before .put-ring .ensures)) (stuck-text _ _ _ _ _ (c .before .before .before .before .before .before .before .before .before .before .before .before .before .before .verdict .given .1))
+returns-2 c =
+    let lines = c .before .before .before .before .before .before in
+    let first = lines .before .before .before .before in
+    laid-as (laid-then (laid-then (first .put-verdict2 .ensures) (lines .put-rows2 .ensures)) (c .before .before .put-ring .ensures))
+    (stuck-text _ _ _ _ _ (first .before .before .before .before .verdict .given .1))
 
 same-length-2 : tie.Need-same-length-2
 same-length-2 c = laid-length (returns-2 c)
@@ -55,7 +62,8 @@ put-refused-requires : tie.Need-put-refused-requires
 put-refused-requires c κs = search needs
 
 returns-3 : tie.Need-returns-3
-returns-3 c = laid-as (c .before .before .put-refused .ensures) (refused-text _ _ _ _ _ _ (c .before .before .before .before .before .verdict2 .given .1))
+returns-3 c =
+    laid-as (c .before .before .put-refused .ensures) (refused-text _ _ _ _ _ _ (c .before .before .before .before .before .verdict2 .given .1))
 
 same-length-3 : tie.Need-same-length-3
 same-length-3 c = laid-length (returns-3 c)

@@ -44,7 +44,8 @@ loop-again : tie.Need-loop-again Inv-loop μ-loop
 unfolding codes labelled
 loop-again c =
     let a = c .before .before .before .before .before .before .before in
-    (omega arith, laid-as (laid-then (a .loop .inv .1) (c .before .before .put-labelled .ensures)) (spaced-more _ (a .loop .k) (c .before .before .before .before .before .before .loop-test .taken)))
+    let more = laid-then (a .loop .inv .1) (c .before .before .put-labelled .ensures) in
+    (omega arith, laid-as more (spaced-more _ (a .loop .k) (c .before .before .before .before .before .before .loop-test .taken)))
 
 same-length : tie.Need-same-length Inv-loop μ-loop
 same-length c = laid-length (c .before .loop .inv .1)

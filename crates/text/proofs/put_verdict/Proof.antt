@@ -67,7 +67,10 @@ returns c =
     let settled = stuck .before .before .before .before .before .before in
     let named = settled .before .before .before .before .before .before in
     let first = named .before .before .before .before in
-    laid-then (laid-then (laid-then (laid-then (laid-then (laid-then (first .put .ensures) (named .put2 .ensures)) (settled .put-labelled .ensures)) (stuck .put-labelled2 .ensures)) (stages .put-labelled3 .ensures)) (longest .put-labelled4 .ensures)) (c .before .before .put3 .ensures)
+    let words = laid-then (first .put .ensures) (named .put2 .ensures) in
+    let both = laid-then (laid-then words (settled .put-labelled .ensures)) (stuck .put-labelled2 .ensures) in
+    let all = laid-then (laid-then both (stages .put-labelled3 .ensures)) (longest .put-labelled4 .ensures) in
+    laid-then all (c .before .before .put3 .ensures)
 
 same-length : tie.Need-same-length
 same-length c = laid-length (returns c)
