@@ -1,11 +1,11 @@
 -- Laws of laying: one piece behind the other, what a loop that lays byte by byte has laid, and that a piece which fits stands there.
 use mathlib.Core.Path.{_≡_, refl, sym, ap, _∙_}
-use mathlib.Core.List.{List, [], _∷_, _++_, append-assoc, append-nil}
+use mathlib.Core.List.{List, [], _∷_, _++_, append-assoc}
 use Prim.Native.Nat.{ℕ, zero, suc, _+_, _-_, _<_, _≤_, min}
 use native.Mathlib.Omega.{arith}
 use native.Mathlib.Numerals.{add-one}
 use lib.ListN.{length, getD, take, drop, set, length-append, length-take, length-drop, length-set, take-append-drop}
-use lib.Seq.{take-length, drop-length, take-nil, drop-nil, take-all, take-append-seam, paste, paste-zero, paste-suc, drop-drop}
+use lib.Seq.{take-length, take-nil, drop-nil, paste, paste-zero, paste-suc, drop-drop}
 use Rattle.letters.specs.Lay.{overlaid, Laid}
 
 -- the piece byte by byte

@@ -1,8 +1,5 @@
 // Letters into a lent buffer: pieces and decimal numbers, laid from a place on, as far as they fit.
-ghost use mathlib.Core.Path.{_≡_};
-ghost use Prim.Native.Nat.{_≤_};
-ghost use lib.ListN.{length, drop};
-ghost use Rattle.rules.specs.Text.{digitsIn, decimal};
+ghost use Rattle.rules.specs.Text.{decimal};
 ghost use Rattle.letters.specs.Lay.{Laid};
 ghost use Rattle.letters.specs.Digits.{Written};
 

@@ -6,9 +6,9 @@ use mathlib.Core.List.{List, [], _∷_, _++_, append-assoc, append-nil}
 use mathlib.Core.Option.{Option, none, some}
 use Prim.Native.Nat.{ℕ, zero, suc, _+_, _-_, _*_, _/_, _%_, _^_, _<_, _≤_, min}
 use native.Mathlib.Omega.{arith}
-use native.Mathlib.Nat.{pow-succ', div-add-mod, div-lt-iff-lt-mul}
+use native.Mathlib.Nat.{pow-succ'}
 use native.Mathlib.Numerals.{add-one}
-use lib.ListN.{length, getD, take, drop, replicate, length-append, length-take, length-drop, drop-of-length-le}
+use lib.ListN.{length, getD, take, drop, length-append, length-take, length-drop, drop-of-length-le}
 use lib.Seq.{take-suc, take-nil}
 use lib.Dec.{ltb, eqb}
 use borrow.Author.Tests.{eq-eqb, ne-eqb, lt-ltb, le-ltb}
@@ -17,13 +17,13 @@ use Rattle.lists.specs.FoldLaws.{fold-append}
 use Rattle.lists.specs.Fill.{blocks}
 use Rattle.lists.specs.FillLaws.{blocks-most, blocks-none, blocks-suc}
 use Rattle.lists.specs.Parts.{part-clipped}
-use Rattle.lists.specs.Tests.{by-test, by-equal, is-inside, neither}
+use Rattle.lists.specs.Tests.{by-test, by-equal, is-inside}
 use Rattle.lists.specs.NumberLaws.{by-number}
 use Rattle.rules.specs.Table.{recordAt}
 use Rattle.rules.specs.Refusals.{Refusal, refusedIf, _orElse_, refusal}
 use Rattle.rules.specs.Report.{report}
 use Rattle.rules.specs.ReportLaws.{ring-length}
-use Rattle.rules.specs.Answers.{Verdict, complete, stuck, refused, verdictOf, verdict, unless, otherLength, checkRefusal, checkVerdict, checkNumbers, rowsAfter, ringAfter}
+use Rattle.rules.specs.Answers.{Verdict, complete, stuck, refused, verdict, unless, otherLength, checkRefusal, checkVerdict, checkNumbers, rowsAfter, ringAfter}
 use Rattle.rules.specs.Text.{codes, digitsIn, decimal, labelled, spaced, recordWords, refusedLine, verdictLine, stageWords, rowPath, pathWords, rowLine, rowAt, rowLines, ringLine, textOf, checkText}
 
 -- the digits of a number: the last one, and those before it

@@ -23,7 +23,10 @@ put-requires c κs = search needs
 
 returns : tie.Need-returns
 unfolding codes labelled refusedLine
-returns c = laid-then (laid-then (c .before .before .before .before .before .before .before .before .before .before .before .put-labelled .ensures) (c .before .before .before .before .before .before .before .put-record .ensures)) (c .before .before .put .ensures)
+returns c =
+    let placed = c .before .before .before .before .before .before .before in
+    let said = placed .before .before .before .before in
+    laid-then (laid-then (said .put-labelled .ensures) (placed .put-record .ensures)) (c .before .before .put .ensures)
 
 same-length : tie.Need-same-length
 same-length c = laid-length (returns c)

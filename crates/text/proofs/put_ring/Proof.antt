@@ -33,7 +33,11 @@ put-requires-2 c κs = search needs
 
 returns : tie.Need-returns
 unfolding codes
-returns c = laid-as (laid-then (laid-then (c .before .before .before .before .before .before .before .before .before .before .before .before .before .put .ensures) (c .before .before .before .before .before .before .before .put-spaced .ensures)) (c .before .before .put2 .ensures)) (ring-part _ _ _ (c .before .before .before .before .before .before .before .before .before .before .at-most .ensures))
+returns c =
+    let said = c .before .before .before .before .before .before .before in
+    let end = said .before .before .before in
+    laid-as (laid-then (laid-then (end .before .before .before .put .ensures) (said .put-spaced .ensures)) (c .before .before .put2 .ensures))
+    (ring-part _ _ _ (end .at-most .ensures))
 
 same-length : tie.Need-same-length
 same-length c = laid-length (returns c)
