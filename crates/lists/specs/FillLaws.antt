@@ -104,6 +104,12 @@ module _ {A : Type 0} (f : ℕ → List A) where
   unfolding blocks
   blocks-suc n = refl
 
+  -- where no block is longer than most
+  pub blocks-most : (most n : ℕ) → ((i : ℕ) → length (f i) ≤ most) → length (blocks f n) ≤ most * n
+  blocks-most most zero h = omega (arith, ap length blocks-none)
+  blocks-most most (suc n) h =
+      omega (arith, ap length (blocks-suc n), length-append (blocks f n) (f n), mul-suc most n, blocks-most most n h, h n)
+
   module _ (size : ℕ) (sized : (i : ℕ) → length (f i) ≡ size) where
     pub blocks-length : (n : ℕ) → length (blocks f n) ≡ size * n
     blocks-length zero = ap length blocks-none ∙ omega arith

@@ -7,8 +7,10 @@ pub mod Machine
 pub mod Run
 pub mod Refusals
 pub mod Answers
+pub mod Text
 -- The worked examples.
 pub mod Examples
+pub mod TextExamples
 -- The laws of accepted tables, and all of them in one place.
 pub mod Shape
 pub mod Accepted
@@ -24,3 +26,4 @@ pub mod RingLaws
 pub mod ReportLaws
 pub mod MachineLaws
 pub mod RunLaws
+pub mod TextLaws

@@ -1,0 +1,48 @@
+-- `text::put_row` meets its contract: 254 is absent; otherwise four pieces behind each other.
+-- Assumes nothing.
+use native.Mathlib.Omega.{arith}
+use borrow.Author.Needs.{needs}
+use Rattle.rules.specs.Text.{codes}
+use Rattle.rules.specs.TextLaws.{row-absent, row-present}
+use Rattle.letters.specs.LayLaws.{laid-then, laid-nothing, laid-as, laid-length}
+use Rattle.text.proofs.put_row.Statement.{statement}
+use Rattle.text.proofs.put_row.Tie as tie
+
+byte-at-requires : tie.Need-byte-at-requires
+byte-at-requires c κs = search needs
+
+returns : tie.Need-returns
+returns c = laid-as (laid-nothing _ _) (row-absent _ _ _ (c .before .byte-at .ensures) (omega arith))
+
+put-number-requires : tie.Need-put-number-requires
+put-number-requires c κs = search needs
+
+put-stage-requires : tie.Need-put-stage-requires
+put-stage-requires c κs = search needs
+
+put-path-requires : tie.Need-put-path-requires
+put-path-requires c κs = search needs
+
+slice-aggregate-put : tie.Need-slice-aggregate-put
+slice-aggregate-put c = search needs
+
+put-requires : tie.Need-put-requires
+put-requires c κs = search needs
+
+returns-2 : tie.Need-returns-2
+unfolding codes
+returns-2 c =
+    let path = c .before .before .before .before .before .before .before in
+    let stage = path .before .before .before .before in
+    let number = stage .before .before .before .before in
+    laid-as (laid-then (laid-then (laid-then (number .put-number .ensures) (stage .put-stage .ensures)) (path .put-path .ensures)) (c .before .before .put .ensures))
+    (row-present _ _ _ (number .before .before .before .byte-at .ensures) (λ e. omega arith))
+
+same-length : tie.Need-same-length
+same-length c = laid-length (returns-2 c)
+
+pub put-row-spec : {M : Type 1} → statement M
+put-row-spec =
+    tie.close
+    (tie.spec byte-at-requires returns put-number-requires put-stage-requires put-path-requires slice-aggregate-put
+    put-requires same-length returns-2)

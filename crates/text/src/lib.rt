@@ -1,0 +1,159 @@
+// The printed text of the check's answer, for any answer and any buffers: a small function for each kind of line.
+ghost use mathlib.Core.Path.{_≡_};
+ghost use mathlib.Core.List.{_++_};
+ghost use Rattle.rules.specs.Text.{decimal, spaced, recordWords, refusedLine, verdictLine, stageWords, rowPath, pathWords, rowLine, rowLines, ringLine, textOf};
+ghost use Rattle.answer.specs.Meaning.{meaning, numbers};
+ghost use Rattle.letters.specs.Lay.{Laid};
+use answer::Answer;
+use answer::Verdict;
+use letters::put;
+use letters::put_number;
+use parts::at_most;
+use parts::byte_at;
+use record::record_at;
+
+// A word and its number.
+fn put_labelled(text: &mut [u8], at: usize, word: &[u8], n: usize) -> usize
+    ensures { λ r. ⌜ Laid at (now (word .entry) ++ decimal n) (now (text .entry)) (now (text .exit)) r ⌝ }
+{
+    let said = put(text, at, word);
+    put_number(text, said, n)
+}
+
+// Each vertex after a space.
+fn put_spaced(text: &mut [u8], at: usize, vertices: &[u8]) -> usize
+    ensures { λ r. ⌜ Laid at (spaced (now (vertices .entry))) (now (text .entry)) (now (text .exit)) r ⌝ }
+{
+    let mut next = at;
+    let mut k = 0;
+    while k < vertices.len() {
+        next = put_labelled(text, next, b" ", vertices[k] as usize);
+        k += 1;
+    }
+    next
+}
+
+// The record's number, for the refusals that concern one record.
+fn put_record(text: &mut [u8], at: usize, number: u8, place: usize) -> usize
+    ensures { λ r. ⌜ Laid at (recordWords number place) (now (text .entry)) (now (text .exit)) r ⌝ }
+{
+    if number < 4 {
+        return at;
+    }
+    put_labelled(text, at, b" record ", place)
+}
+
+// `refused 9 record 2`, or `refused 3`.
+fn put_refused(text: &mut [u8], number: u8, place: usize) -> usize
+    ensures { λ r. ⌜ Laid 0 (refusedLine number place) (now (text .entry)) (now (text .exit)) r ⌝ }
+{
+    let said = put_labelled(text, 0, b"refused ", number as usize);
+    let placed = put_record(text, said, number, place);
+    put(text, placed, b"\n")
+}
+
+// `verdict stuck settled 1 stuck 2 stages 1 longest 2`, with the verdict's name.
+fn put_verdict(text: &mut [u8], name: &[u8], answer: Answer) -> usize
+    ensures { λ r. ⌜ Laid 0 (verdictLine (now (name .entry)) (numbers answer)) (now (text .entry)) (now (text .exit)) r ⌝ }
+{
+    let first = put(text, 0, b"verdict ");
+    let named = put(text, first, name);
+    let settled = put_labelled(text, named, b" settled ", answer.settled as usize);
+    let stuck = put_labelled(text, settled, b" stuck ", answer.stuck as usize);
+    let stages = put_labelled(text, stuck, b" stages ", answer.stages as usize);
+    let longest = put_labelled(text, stages, b" longest ", answer.longest as usize);
+    put(text, longest, b"\n")
+}
+
+// `stage 1`, or `stuck`.
+fn put_stage(text: &mut [u8], at: usize, row: &[u8]) -> usize
+    ensures { λ r. ⌜ Laid at (stageWords (now (row .entry))) (now (text .entry)) (now (text .exit)) r ⌝ }
+{
+    let stage = byte_at(row, 0);
+    if stage == 255 {
+        return put(text, at, b" stuck");
+    }
+    put_labelled(text, at, b" stage ", stage as usize)
+}
+
+// The vertices of a row's path, whatever its hops say: they end with the row at the latest.
+fn path_in(row: &[u8]) -> &[u8]
+    ensures { λ r. ⌜ now r ≡ rowPath (now (row .entry)) ⌝ }
+{
+    let length = row.len();
+    if length < 3 {
+        return &row[..0];
+    }
+    let end = at_most(byte_at(row, 2) as usize + 4, length);
+    &row[3..end]
+}
+
+// `rank 1 path 1 0`, or `none`.
+fn put_path(text: &mut [u8], at: usize, row: &[u8]) -> usize
+    ensures { λ r. ⌜ Laid at (pathWords (now (row .entry))) (now (text .entry)) (now (text .exit)) r ⌝ }
+{
+    let rank = byte_at(row, 1);
+    if rank == 0 {
+        return put(text, at, b" none");
+    }
+    let said = put_labelled(text, at, b" rank ", rank as usize);
+    let next = put(text, said, b" path");
+    put_spaced(text, next, path_in(row))
+}
+
+// The line of vertex v, where it is present.
+fn put_row(text: &mut [u8], at: usize, v: usize, row: &[u8]) -> usize
+    ensures { λ r. ⌜ Laid at (rowLine v (now (row .entry))) (now (text .entry)) (now (text .exit)) r ⌝ }
+{
+    if byte_at(row, 0) == 254 {
+        return at;
+    }
+    let named = put_number(text, at, v);
+    let staged = put_stage(text, named, row);
+    let routed = put_path(text, staged, row);
+    put(text, routed, b"\n")
+}
+
+// The lines of the vertices 1 to 63. A row, as a record, is the 16 bytes at 16 times its number.
+fn put_rows(text: &mut [u8], at: usize, rows: &[u8]) -> usize
+    ensures { λ r. ⌜ Laid at (rowLines (now (rows .entry)) 63) (now (text .entry)) (now (text .exit)) r ⌝ }
+{
+    let mut next = at;
+    let mut v = 0;
+    while v < 63 {
+        v += 1;
+        next = put_row(text, next, v, record_at(rows, v));
+    }
+    next
+}
+
+// `ring 2 3`, with as many vertices as the ring is long.
+fn put_ring(text: &mut [u8], at: usize, size: u8, ring: &[u8]) -> usize
+    ensures { λ r. ⌜ Laid at (ringLine size (now (ring .entry))) (now (text .entry)) (now (text .exit)) r ⌝ }
+{
+    let word = put(text, at, b"ring");
+    let end = at_most(size as usize, ring.len());
+    let said = put_spaced(text, word, &ring[..end]);
+    put(text, said, b"\n")
+}
+
+// Lays the text of an answer over the front of a buffer, as far as it fits, and answers how many bytes were laid.
+pub fn print(answer: Answer, rows: &[u8], ring: &[u8], text: &mut [u8]) -> usize
+    ensures { λ r. ⌜ Laid 0 (textOf (meaning (answer .verdict)) (numbers answer) (now (rows .entry)) (now (ring .entry))) (now (text .entry)) (now (text .exit)) r ⌝ }
+{
+    let verdict = answer.verdict;
+    match verdict {
+        Verdict::Complete => {
+            let first = put_verdict(text, b"complete", answer);
+            return put_rows(text, first, rows);
+        }
+        Verdict::Stuck(size) => {
+            let first = put_verdict(text, b"stuck", answer);
+            let last = put_rows(text, first, rows);
+            return put_ring(text, last, size, ring);
+        }
+        Verdict::Refused(number, place) => {
+            return put_refused(text, number, place);
+        }
+    }
+}
