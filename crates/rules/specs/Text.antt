@@ -22,7 +22,7 @@ unfoldable pub digitsIn : ℕ → ℕ → List ℕ
 digitsIn zero n = []
 digitsIn (suc k) n = elim (n / 10) [ zero ↦ [] | suc m ↦ digitsIn k (suc m) ] ++ (48 + n % 10) ∷ []
 
--- a number as it is printed: every number printed is below 10,000,000,000
+-- a number as it is printed, its last ten digits at most: no number that the check prints has more
 unfoldable pub decimal : ℕ → List ℕ
 decimal n = digitsIn 10 n
 
