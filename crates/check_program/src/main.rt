@@ -1,13 +1,32 @@
 // The check program: a table from standard input, its check to standard output.
+ghost use Prim.Native.Nat.{_≤_};
+use libc::STDERR_FILENO;
 use libc::STDIN_FILENO;
 use libc::STDOUT_FILENO;
 use printed::check_text;
 
-// One byte more than the longest table has, so that a longer input is seen.
+// Whether standard input is at its end, and not at an error.
+fn at_end() -> bool {
+    let mut more = [0u8; 1];
+    libc::read(STDIN_FILENO, &mut more) == 0
+}
+
+// The table's check, printed.
+fn answer(table: &[u8]) {
+    let mut text = [0; 16384];
+    let length = check_text(table, &mut text);
+    io::write_all(STDOUT_FILENO, &text[..length]);
+}
+
+// The input has room for one byte more than the longest table, so that a longer one is seen; a shorter one has to be at its end.
 fn main() {
     let mut input = [0; 16129];
     let count = io::read_full(STDIN_FILENO, &mut input);
-    let mut text = [0; 16384];
-    let length = check_text(&input[..count], &mut text);
-    io::write_all(STDOUT_FILENO, &text[..length]);
+    if count < 16129 {
+        if !at_end() {
+            io::write_all(STDERR_FILENO, b"standard input cannot be read\n");
+            return;
+        }
+    }
+    answer(&input[..count]);
 }

@@ -1,12 +1,20 @@
-// The reader for tests outside Rattle: exported functions that take a table and give one number, thin over the reader.
+// The reader and the check for tests outside Rattle: exported functions that take a table and give one number, thin over the proved crates.
 ghost use mathlib.Core.Path.{_≡_};
 ghost use Rattle.rules.specs.Table.{longest, present, pathsOf, listensAt};
+ghost use Prim.Native.Nat.{min};
+ghost use lib.ListN.{length};
 ghost use Rattle.rules.specs.Refusals.{refusal};
+ghost use Rattle.rules.specs.Answers.{checkRefusal, rowsAfter, ringAfter};
+ghost use Rattle.rules.specs.Text.{checkText};
+ghost use Rattle.letters.specs.Lay.{overlaid};
 ghost use Rattle.probe.specs.Numbers.{codeOf, markOf, slotAt};
+use answer::Verdict;
+use checker::check;
 use facts::listening_in;
 use facts::longest_hops;
 use facts::present_in;
 use facts::slots_of;
+use printed::check_text;
 use reader::Reading;
 use reader::read;
 
@@ -75,4 +83,35 @@ pub extern "C" fn probe_slot(table: &[u8], v: u64, k: u64) -> u64
     let slots = slots_of(table);
     let row = slots[v as usize];
     wide(row[k as usize])
+}
+
+// The check: 0, or the refusal's number plus 256 times its place.
+#[no_mangle]
+pub extern "C" fn probe_check(table: &[u8], rows: &mut [u8], ring: &mut [u8]) -> u64
+    ensures code { λ r. ⌜ r ≡ codeOf (checkRefusal (now (table .entry)) (now (rows .entry)) (now (ring .entry))) ⌝ }
+    ensures rows { λ r. ⌜ now (rows .exit) ≡ rowsAfter (now (table .entry)) (now (rows .entry)) (now (ring .entry)) ⌝ }
+    ensures ring { λ r. ⌜ now (ring .exit) ≡ ringAfter (now (table .entry)) (now (rows .entry)) (now (ring .entry)) ⌝ }
+{
+    let answer = check(table, rows, ring);
+    let verdict = answer.verdict;
+    match verdict {
+        Verdict::Complete => {
+            return 0;
+        }
+        Verdict::Stuck(_) => {
+            return 0;
+        }
+        Verdict::Refused(number, place) => {
+            return number as u64 + 256 * (place as u64);
+        }
+    }
+}
+
+// The check program's text, laid over the front of the lent text as far as it fits, and how many bytes that is.
+#[no_mangle]
+pub extern "C" fn probe_text(table: &[u8], text: &mut [u8]) -> u64
+    ensures text { λ r. ⌜ now (text .exit) ≡ overlaid (checkText (now (table .entry))) (now (text .entry)) ⌝ }
+    ensures count { λ r. ⌜ r ≡ min (length (checkText (now (table .entry)))) (length (now (text .entry))) ⌝ }
+{
+    check_text(table, text) as u64
 }

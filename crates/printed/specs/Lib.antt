@@ -1,0 +1,2 @@
+-- The check as text.
+pub mod PrintedLaws
