@@ -1,11 +1,11 @@
 -- What the check's answer and buffers are, refused or accepted, and that the contract allows one result for each input.
 use mathlib.Core.Path.{_≡_, refl, sym, ap, _∙_}
-use mathlib.Core.Bool.{Bool, true, false, _||_}
-use mathlib.Core.List.{List, [], _∷_}
+use mathlib.Core.Bool.{Bool, true, false}
+use mathlib.Core.List.{List}
 use mathlib.Core.Option.{Option, none, some}
 use Prim.Native.Nat.{ℕ, suc, zero}
 use native.Mathlib.Omega.{arith}
-use lib.ListN.{length, replicate}
+use lib.ListN.{length}
 use Rattle.lists.specs.Tests.{by-less, or-left, or-right, neither, is-inside, below-out, above-out}
 use Rattle.lists.specs.Fill.{padded, tabulate}
 use Rattle.rules.specs.Table.{longest}

@@ -1,22 +1,22 @@
 -- Where the stages have ended, marks and records tell the report of the rules.
-use mathlib.Core.Path.{_≡_, refl, sym, ap, _∙_, fun-ext}
-use mathlib.Core.Logic.{_≢_, _⊎_, inl, inr}
+use mathlib.Core.Path.{_≡_, sym, ap, _∙_, fun-ext}
+use mathlib.Core.Logic.{_≢_, inl, inr}
 use mathlib.Core.Bool.{Bool, true, false, not, _&&_}
 use mathlib.Core.List.{List, [], _∷_}
-use mathlib.Core.Option.{Option, none, some}
-use Prim.Native.Nat.{ℕ, zero, suc, _+_, _<_, _≤_}
+use mathlib.Core.Option.{none, some}
+use Prim.Native.Nat.{ℕ, _<_, _≤_}
 use native.Mathlib.Omega.{arith}
 use lib.ListN.{length, getD, List·getD-eq-default}
-use lib.Dec.{eqb, ltb}
+use lib.Dec.{eqb}
 use borrow.Author.Tests.{eq-eqb, ne-eqb}
 use Rattle.lists.specs.Tests.{by-test, by-equal, by-less, by-option, true≢, none≢some, is-inside, above-out, below-out}
-use Rattle.lists.specs.Search.{countBelow, outside}
+use Rattle.lists.specs.Search.{outside}
 use Rattle.lists.specs.SearchLaws.{count-ext}
-use Rattle.lists.specs.Fill.{tabulate, blocks, padded}
+use Rattle.lists.specs.Fill.{tabulate, blocks}
 use Rattle.lists.specs.FillLaws.{tabulate-length, tabulate-at, blocks-ext}
-use Rattle.rules.specs.Table.{Path, records, rankOf, pathAt, rankAt, ownerAt, recordAt, pathsOf, present, longest, nextHop}
+use Rattle.rules.specs.Table.{Path, records, rankOf, pathAt, rankAt, recordAt, pathsOf, present, nextHop}
 use Rattle.rules.specs.Refusals.{refusal}
-use Rattle.rules.specs.Greedy.{Settled, isSettled, best, settled, stageCount, stageOf, stuckIn, follows, ringFrom}
+use Rattle.rules.specs.Greedy.{Settled, isSettled, best, stageCount, stageOf, stuckIn, follows, ringFrom}
 use Rattle.rules.specs.Report.{rowBytes, rankIn, placeIn, row, report}
 use Rattle.rules.specs.ShapeLaws.{shaped, path-length, names}
 use Rattle.rules.specs.TableLaws.{record-past, path-owner}
@@ -24,14 +24,13 @@ use Rattle.rules.specs.Sanity.{rank-byte}
 use Rattle.rules.specs.PathLaws.{place-absent, place-nil}
 use Rattle.rules.specs.GreedyLaws.{settled-origin, settled-present}
 use Rattle.rules.specs.RingLaws.{final, isStuck, onward, stuck-present, stuck-unsettled, stuck-next}
-use Rattle.judge.specs.Standing.{isIn, heldPath, settledBy, isJudged}
+use Rattle.judge.specs.Standing.{isJudged}
 use Rattle.judge.specs.StandingLaws.{holds-record, settled-holds}
 use Rattle.ring.specs.Ring.{ringIn}
 use Rattle.ring.specs.RingLaws.{ring-agrees}
-use Rattle.checker.specs.Settling.{markAt, Own, Stands, Waits, Ended}
+use Rattle.checker.specs.Settling.{markAt, Own, Ended}
 use Rattle.checker.specs.SettlingLaws.{few-records, no-path, mark-absent, mark-waits, mark-settled, stage-small, stage-origin}
 use Rattle.checker.specs.Rows.{shownRow, isBetween, countBetween}
-use Rattle.checker.specs.Reported.{reportNumbers}
 
 -- the rank byte of what a vertex shows is the rank of its path
 
@@ -65,9 +64,6 @@ module _ (t : List ℕ) (e : refusal t ≡ none) (marks shown : List ℕ) (stage
 
   abbrev S : Settled
   S = final (pathsOf t) (present t)
-
-  pub marks-length : length marks ≡ 64
-  marks-length = ap length (d .stands .marked) ∙ tabulate-length (markAt t last) 64
 
   mark-here : (v f : ℕ) → v < 64 → getD marks v f ≡ markAt t last v
   mark-here v f h = ap (λ (l : List ℕ). getD l v f) (d .stands .marked) ∙ tabulate-at (markAt t last) 64 v f h

@@ -1,25 +1,23 @@
 -- Laws of the rows and counts, as the code's steps need them.
 use mathlib.Core.Path.{_≡_, refl, sym, ap, _∙_}
-use mathlib.Core.Logic.{_≢_}
-use mathlib.Core.Bool.{Bool, true, false, not, _&&_}
+use mathlib.Core.Bool.{Bool, true, false, not}
 use mathlib.Core.List.{List, [], _∷_, _++_, append-nil}
-use Prim.Native.Nat.{ℕ, zero, suc, pred, _+_, _-_, _*_, _<_, _≤_}
+use Prim.Native.Nat.{ℕ, suc, pred, _+_, _-_, _*_, _<_, _≤_}
 use native.Mathlib.Omega.{arith}
 use native.Mathlib.Numerals.{add-one}
 use lib.ListN.{length, getD, take, drop, set, length-set, length-take, length-drop, length-append, drop-of-length-le}
 use lib.Seq.{take-all}
-use lib.Dec.{eqb}
 use borrow.Author.Tests.{eq-eqb, ne-eqb}
 use Rattle.lists.specs.Search.{countBelow, outside}
 use Rattle.lists.specs.SearchLaws.{count-in, count-out, count-most}
-use Rattle.lists.specs.Fill.{blocks, padded, tabulate}
+use Rattle.lists.specs.Fill.{blocks, padded}
 use Rattle.lists.specs.ListLaws.{getD-within}
 use Rattle.lists.specs.RenewLaws.{block-first, block-length, block-more}
 use Rattle.lists.specs.Tests.{by-equal}
 use Rattle.rules.specs.Table.{recordAt, hopsOf, pathOf, rankAt, pathAt}
 use Rattle.rules.specs.Report.{rowBytes}
 use Rattle.rules.specs.ReportLaws.{row-bytes-length}
-use Rattle.checker.specs.Rows.{isBetween, countBetween, shownRow}
+use Rattle.checker.specs.Rows.{isBetween, shownRow}
 
 -- the count that has come to v; b says whether the mark there is outside
 module _ (low high : ℕ) (marks : List ℕ) where
@@ -73,7 +71,10 @@ module _ (mark rank hops : ℕ) where
 module _ (t marks shown : List ℕ) where
   pub shown-length : (v : ℕ) → length (shownRow t marks shown v) ≡ 16
   unfolding shownRow
-  shown-length v = by-equal v 0 (λ q. rw (eq-eqb v 0 q, shownRow) (row-bytes-length _ _ _)) (λ q. rw (ne-eqb v 0 q, shownRow) (row-bytes-length _ _ _))
+  shown-length v =
+      by-equal v 0
+      (λ q. rw (eq-eqb v 0 q, shownRow) (row-bytes-length _ _ _))
+      (λ q. rw (ne-eqb v 0 q, shownRow) (row-bytes-length _ _ _))
 
   pub shown-origin : rowBytes 0 0 (0 ∷ []) ≡ shownRow t marks shown 0
   unfolding shownRow
@@ -116,12 +117,14 @@ module _ (t marks shown rows : List ℕ) (long : length rows ≡ 1024) (ys : Lis
       )
 
   -- and after the next
+  abbrev pub rowWritten : ℕ → List ℕ
+  rowWritten at = take at rows ++ (ys ++ drop (at + 16 - at) (drop at rows))
+
   pub next-written : (v : ℕ)
       → v < 64
       → take (v * 16) rows ≡ blocks (shownRow t marks shown) v
       → ys ≡ shownRow t marks shown v
-      → (length (take (v * 16) rows ++ (ys ++ drop (v * 16 + 16 - v * 16) (drop (v * 16) rows))) ≡ 1024)
-      × (take ((v + 1) * 16) (take (v * 16) rows ++ (ys ++ drop (v * 16 + 16 - v * 16) (drop (v * 16) rows))) ≡ blocks (shownRow t marks shown) (v + 1))
+      → (length (rowWritten (v * 16)) ≡ 1024) × (take ((v + 1) * 16) (rowWritten (v * 16)) ≡ blocks (shownRow t marks shown) (v + 1))
   next-written v h come e = (
     block-length (shownRow t marks shown) 16 (shown-length t marks shown) rows ys (v * 16) v (omega arith) e ∙ long,
     block-more (shownRow t marks shown) 16 (shown-length t marks shown) rows ys (v * 16) v (omega arith) e ((v + 1) * 16) (omega arith) come,

@@ -2,14 +2,14 @@
 use mathlib.Core.Path.{_≡_}
 use mathlib.Core.Logic.{_⊎_}
 use mathlib.Core.Bool.{Bool, true, false}
-use mathlib.Core.List.{List, []}
+use mathlib.Core.List.{List}
 use mathlib.Core.Option.{none}
 use Prim.Native.Nat.{ℕ, _<_}
 use lib.ListN.{length, getD}
 use lib.Dec.{eqb}
 use Rattle.lists.specs.Fill.{tabulate}
 use Rattle.rules.specs.Table.{records, pathAt, ownerAt, pathsOf, present}
-use Rattle.rules.specs.Greedy.{Settled, isSettled, best, settled, stageCount, stageOf}
+use Rattle.rules.specs.Greedy.{isSettled, best, settled, stageCount, stageOf}
 use Rattle.judge.specs.Standing.{settledBy}
 
 -- the mark of a vertex after k stages: 254 absent, 255 waiting, otherwise the stage at which it settled
@@ -30,7 +30,8 @@ Own t v i = (i ≡ 65535) ⊎ ((i < records t) × (ownerAt t i ≡ v))
 
 -- what stands after k stages
 pub record Stands (t : List ℕ) (k : ℕ) (marks shown : List ℕ) : Type 0 where
-  pub long : length shown ≡ 64
+  pub manyMarks : length marks ≡ 64
+  pub manyShown : length shown ≡ 64
   pub marked : marks ≡ tabulate (markAt t k) 64
   pub held : settledBy t marks shown ≡ settled (pathsOf t) (present t) k
   pub own : (v : ℕ) → Own t v (getD shown v 65535)

@@ -1,27 +1,25 @@
 -- Laws of the check's marks and records: one stage over them is one stage of the rules.
 use mathlib.Core.Path.{_≡_, refl, sym, ap, _∙_, fun-ext}
 use mathlib.Core.Logic.{_≢_, _⊎_, inl, inr}
-use mathlib.Core.Bool.{Bool, true, false, not, _&&_, _||_}
-use mathlib.Core.List.{List, [], _∷_, map}
-use mathlib.Core.Option.{Option, none, some}
-use Prim.Native.Nat.{ℕ, zero, suc, _+_, _-_, _*_, _<_, _≤_, min}
+use mathlib.Core.Bool.{Bool, true, false}
+use mathlib.Core.List.{List, [], _∷_}
+use mathlib.Core.Option.{none, some}
+use Prim.Native.Nat.{ℕ, suc, _+_, _-_, _<_, _≤_, min}
 use native.Mathlib.Omega.{arith}
 use native.Mathlib.Numerals.{add-one}
 use lib.ListN.{length, getD, replicate, length-replicate, List·getD-eq-default}
-use lib.Dec.{eqb, ltb}
 use borrow.Author.Tests.{eq-eqb, ne-eqb, lt-ltb, le-ltb, not-true}
 use Rattle.lists.specs.Tests.{by-test, by-equal, by-less, by-option, true≢, none≢some, and-parts}
 use Rattle.lists.specs.Fill.{tabulate, padded}
 use Rattle.lists.specs.FillLaws.{tabulate-length, tabulate-at, tabulate-ext, padded-whole, alike-at}
-use Rattle.rules.specs.Table.{Path, records, pathAt, ownerAt, owned, pathsOf, pathsBelow, present, slotsOf, nextHop, recordAt, pathOf}
+use Rattle.rules.specs.Table.{Path, records, pathAt, ownerAt, owned, pathsOf, pathsBelow, present, slotsOf, nextHop, recordAt}
 use Rattle.rules.specs.Refusals.{refusal}
-use Rattle.rules.specs.Greedy.{Settled, isSettled, compatible, atStart, judged, best, stage, settled, stageCount, stageOf, enters, quiet}
+use Rattle.rules.specs.Greedy.{Settled, isSettled, compatible, atStart, judged, best, settled, stageCount, stageOf, enters, quiet}
 use Rattle.rules.specs.Accepted.{accepted}
-use Rattle.rules.specs.Shape.{Shaped}
 use Rattle.rules.specs.ShapeLaws.{shaped, path-length}
-use Rattle.rules.specs.Blocks.{here, owned-length, owned-at, paths-length}
+use Rattle.rules.specs.Blocks.{here, owned-length, owned-at}
 use Rattle.rules.specs.TableLaws.{record-past, path-short}
-use Rattle.rules.specs.GreedyLaws.{is-none, is-some, judged-path, settled-zero, settled-suc, settled-out, settled-stays, settled-origin, settled-present, stage-absent, stage-judges, stages-most, settled-end, stages-busy, stages-quiet, quiet-stage, quiet-none, busy-some, enters-counted, stage-entered}
+use Rattle.rules.specs.GreedyLaws.{is-none, is-some, judged-path, settled-zero, settled-suc, settled-out, settled-stays, settled-origin, settled-present, stage-absent, stage-judges, stages-most, settled-end, stages-busy, stages-quiet, quiet-stage, busy-some, enters-counted, stage-entered}
 use Rattle.lists.specs.Search.{firstFrom, same}
 use Rattle.lists.specs.ListLaws.{same-eq, differs}
 use Rattle.lists.specs.SearchLaws.{first-found, first-hit}
@@ -322,13 +320,15 @@ module _ (t : List ℕ) (e : refusal t ≡ none) (k : ℕ) (marks shown : List �
         go h (goesIn a q j) =
             let f = after-judged t e k v h a q ∙ j in
             in-settled t marksNext shownNext v (is-in v h (omega (arith, mark-settled t (suc k) v _ a f, stage-small t v)))
-            ∙ ap some (held-enters v h (λ z. none≢some (rw z at q) (settled-origin (pathsOf t) (present t) k)) (gets-shown v h (is-judged v h (mark-waits t k v a q))))
+            ∙ ap some (held-enters v h (λ z. none≢some (rw z at q) (settled-origin (pathsOf t) (present t) k))
+            (gets-shown v h (is-judged v h (mark-waits t k v a q))))
             ∙ sym f
 
     -- the stage leaves what the rules' next stage leaves
     pub stands-next : Stands t (suc k) marksNext shownNext
     stands-next = record {
-      long = tabulate-length (shownAfter t slots marks shown) 64;
+      manyMarks = tabulate-length (markAfter t slots marks shown (suc k)) 64;
+      manyShown = tabulate-length (shownAfter t slots marks shown) 64;
       marked = tabulate-ext (markAfter t slots marks shown (suc k)) (markAt t (suc k)) 64 new-mark;
       held = fun-ext held-next;
       own = own-next;
@@ -429,7 +429,8 @@ module _ (t : List ℕ) (e : refusal t ≡ none) where
   start-mark : (v : ℕ) → startMark (present t) v ≡ markAt t 0 v
   start-mark v =
       by-equal v 0
-      (λ q. sym (start-origin (present t) v q) ∙ sym (rw q (mark-settled t 0 0 _ (shaped t e .origin) (settled-origin (pathsOf t) (present t) 0) ∙ stage-origin t)))
+      (λ q. sym (start-origin (present t) v q)
+      ∙ sym (rw q (mark-settled t 0 0 _ (shaped t e .origin) (settled-origin (pathsOf t) (present t) 0) ∙ stage-origin t)))
       (λ q. by-test (present t v)
       (λ a. sym (start-present (present t) v q a) ∙ sym (mark-waits t 0 v a (start-none v q)))
       (λ a. sym (start-absent (present t) v q a) ∙ sym (mark-absent t 0 v a)))
@@ -457,7 +458,8 @@ module _ (t : List ℕ) (e : refusal t ≡ none) where
 
   pub stands-start : Stands t 0 firstMarks (replicate 64 65535)
   stands-start = record {
-    long = length-replicate {A = ℕ} 64 65535;
+    manyMarks = tabulate-length (startMark (present t)) 64;
+    manyShown = length-replicate {A = ℕ} 64 65535;
     marked = tabulate-ext (startMark (present t)) (markAt t 0) 64 (λ v h. start-mark v);
     held = fun-ext held-start;
     own = λ v. inl (alike-at 64 v 65535);
@@ -481,7 +483,8 @@ stands-end t marks shown st =
     let same : (v : ℕ) → settled (pathsOf t) (present t) (suc s) v ≡ settled (pathsOf t) (present t) s v
     = λ v. rw z at (settled-end (pathsOf t) (present t) 1 v) in
     record {
-      long = st .long;
+      manyMarks = st .manyMarks;
+      manyShown = st .manyShown;
       marked = st .marked ∙ tabulate-ext (markAt t (suc s)) (markAt t s) 64 (λ v h. mark-same t (suc s) s v (same v));
       held = st .held ∙ fun-ext same;
       own = st .own;

@@ -1,7 +1,7 @@
 -- Laws of the search through a vertex's slots: what it finds is the record of the first path that passes.
 use mathlib.Core.Path.{_≡_, refl, sym, ap, _∙_}
 use mathlib.Core.Logic.{_≢_, _⊎_, inl, inr}
-use mathlib.Core.Bool.{Bool, true, false}
+use mathlib.Core.Bool.{Bool, false}
 use mathlib.Core.List.{List, [], _∷_, _++_, map}
 use Prim.Native.Nat.{ℕ, zero, suc, _<_}
 use native.Mathlib.Omega.{arith}
@@ -31,7 +31,8 @@ module _ (test : ℕ → Bool) where
   record-padded (i ∷ is) n f =
       by-test (test i)
       (λ q. record-pass test i _ (filled-head i is f) q ∙ sym (record-pass test i is (filled-head i is f) q))
-      (λ q. record-fail test i _ (filled-head i is f) q ∙ record-padded is n (filled-tail i is f) ∙ sym (record-fail test i is (filled-head i is f) q))
+      (λ q. record-fail test i _ (filled-head i is f) q ∙ record-padded is n (filled-tail i is f)
+      ∙ sym (record-fail test i is (filled-head i is f) q))
 
   -- what is found is none or one of the records
   pub record-among : (l : List ℕ) → Filled l → (firstRecord test l ≡ 65535) ⊎ ((k : ℕ) × (k < length l) × (getD l k 0 ≡ firstRecord test l))

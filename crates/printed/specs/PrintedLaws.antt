@@ -1,10 +1,9 @@
 -- Laws of the check as text: what is laid is the text of the table, one result, and 16,384 bytes hold it.
-use mathlib.Core.Path.{_≡_, refl, sym, ap, _∙_}
+use mathlib.Core.Path.{_≡_, sym, _∙_}
 use mathlib.Core.List.{List}
 use Prim.Native.Nat.{ℕ, _≤_, min}
 use native.Mathlib.Omega.{arith}
 use lib.ListN.{length, take, replicate, length-replicate}
-use Rattle.rules.specs.Answers.{checkVerdict, checkNumbers, rowsAfter, ringAfter}
 use Rattle.rules.specs.Text.{textOf, checkText}
 use Rattle.rules.specs.TextLaws.{check-text, check-text-fits}
 use Rattle.answer.specs.declared.Answer.{Answer}
@@ -34,6 +33,9 @@ pub one-text : (t before after after′ : List ℕ) (n m : ℕ) → Printed t be
 one-text t before after after′ n m p q = (p .0 ∙ sym (q .0), p .1 ∙ sym (q .1))
 
 -- in 16,384 bytes the whole text stands in front
-pub whole-text : (t before after : List ℕ) (n : ℕ) → 16384 ≤ length before → Printed t before after n → (n ≡ length (checkText t)) × (take n after ≡ checkText t)
+pub whole-text : (t before after : List ℕ) (n : ℕ)
+    → 16384 ≤ length before
+    → Printed t before after n
+    → (n ≡ length (checkText t)) × (take n after ≡ checkText t)
 whole-text t before after n h p =
     laid-fits (record { stands = p .0; reaches = omega (arith, p .1) }) (omega (arith, check-text-fits t))

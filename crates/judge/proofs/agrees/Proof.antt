@@ -1,8 +1,6 @@
 -- `judge::agrees` meets its contract: vertex 0 holds (0), any other the path of its record.
 -- Assumes nothing.
 use mathlib.Core.Path.{_∙_, ap, sym}
-use mathlib.Core.List.{List}
-use Prim.Native.Nat.{ℕ}
 use borrow.Author.Needs.{needs}
 use Rattle.lists.specs.Search.{same}
 use Rattle.rules.specs.Table.{pathAt}
@@ -34,17 +32,11 @@ same-parts-requires-2 c κs = search needs
 returns-2 : tie.Need-returns-2
 returns-2 c =
     c .same-parts2 .ensures
-    ∙ ap (same _) (c .before .path-at .ensures ∙ ap (pathAt _) (c .before .before .record-of .ensures) ∙ sym (holds-record _ _ _ (c .before .before .before .if1 .left)))
+    ∙ ap (same _) (c .before .path-at .ensures ∙ ap (pathAt _) (c .before .before .record-of .ensures)
+    ∙ sym (holds-record _ _ _ (c .before .before .before .if1 .left)))
 
 pub agrees-spec : {M : Type 1} → statement M
 agrees-spec =
     tie.close
-    (tie.spec
-    slice-aggregate-same-parts
-    same-parts-requires
-    returns
-    record-of-requires
-    cast-path-at
-    path-at-requires
-    same-parts-requires-2
-    returns-2)
+    (tie.spec slice-aggregate-same-parts same-parts-requires returns record-of-requires cast-path-at path-at-requires
+    same-parts-requires-2 returns-2)

@@ -6,22 +6,23 @@ use Prim.Native.Nat.{_≤_, _-_}
 use native.Mathlib.Omega.{arith}
 use borrow.Kind.Array.{good-length, eInt}
 use mir.Syntax.{w16}
-use lib.ListN.{drop}
-use Rattle.rules.specs.Table.{pathAt}
-use Rattle.rules.specs.Greedy.{compatible}
-use Rattle.judge.specs.Standing.{settledBy, firstRecord, bestRecord}
+use lib.ListN.{length, drop}
+use Rattle.judge.specs.Standing.{bestRecord}
 use Rattle.judge.specs.StandingLaws.{records-end, records-hit, records-next, records-none, look-compatible}
 use Rattle.judge.proofs.best_record.Statement.{statement}
 use Rattle.judge.proofs.best_record.Tie as tie
 
 abbrev Inv-loop : tie.InvT-loop
-Inv-loop t marks shown slots k₀ k = (k ≤ 16) × (firstRecord (λ i. compatible (settledBy t marks shown) (pathAt t i)) (drop k slots) ≡ firstRecord (λ i. compatible (settledBy t marks shown) (pathAt t i)) slots)
+Inv-loop t marks shown slots k₀ k =
+    (length slots ≡ 16) × (k ≤ 16) × (bestRecord t marks shown (drop k slots) ≡ bestRecord t marks shown slots)
 
 abbrev μ-loop : tie.MeasureT-loop
 μ-loop t marks shown slots k₀ k = 16 - k
 
 loop-holds : tie.Need-loop-holds Inv-loop μ-loop
-loop-holds c = (omega arith, refl)
+loop-holds c =
+    let a = c .before .before .before in
+    (good-length (eInt w16) 16 (a .args .t4) _ (a .good .1 .1 .1 .0), omega arith, refl)
 
 mul-i : tie.Need-mul-i Inv-loop μ-loop
 mul-i c = omega arith
@@ -31,7 +32,7 @@ array-read-i c = omega arith
 
 returns : tie.Need-returns Inv-loop μ-loop
 unfolding bestRecord
-returns c = records-end _ _ _ (c .before .before .loop .inv .1) (omega (arith, good-length (eInt w16) 16 (c .before .before .before .before .before .before .args .t4) _ (c .before .before .before .before .before .before .good .1 .1 .1 .0))) (c .if1 .taken)
+returns c = records-end _ _ _ (c .before .before .loop .inv .2) (omega arith) (c .if1 .taken)
 
 wide-requires : tie.Need-wide-requires Inv-loop μ-loop
 wide-requires c κs = omega arith
@@ -46,8 +47,9 @@ returns-2 : tie.Need-returns-2 Inv-loop μ-loop
 unfolding bestRecord
 returns-2 c =
     let a = c .before .before .before .before in
-    records-hit _ _ _ (a .before .before .loop .inv .1) (omega (arith, good-length (eInt w16) 16 (a .before .before .before .before .before .before .args .t4) _ (a .before .before .before .before .before .before .good .1 .1 .1 .0))) (a .if1 .left)
-    (look-compatible _ _ _ _ _ _ _ true (c .before .before .before .wide .ensures) (c .before .before .path-at .ensures) (c .before .is-compatible .ensures) (c .if2 .taken))
+    records-hit _ _ _ (a .before .before .loop .inv .2) (omega arith) (a .if1 .left)
+    (look-compatible _ _ _ _ _ _ _ true (c .before .before .before .wide .ensures) (c .before .before .path-at .ensures)
+    (c .before .is-compatible .ensures) (c .if2 .taken))
 
 add-k : tie.Need-add-k Inv-loop μ-loop
 add-k c = omega arith
@@ -56,32 +58,22 @@ loop-less : tie.Need-loop-less Inv-loop μ-loop
 loop-less c = omega arith
 
 loop-again : tie.Need-loop-again Inv-loop μ-loop
+unfolding bestRecord
 loop-again c =
     let a = c .before .before .before .before in (
+      a .before .before .loop .inv .0,
       omega arith,
-      records-next _ _ _ (a .before .before .loop .inv .1) (omega (arith, good-length (eInt w16) 16 (a .before .before .before .before .before .before .args .t4) _ (a .before .before .before .before .before .before .good .1 .1 .1 .0))) (a .if1 .left)
-          (look-compatible _ _ _ _ _ _ _ false (c .before .before .before .wide .ensures) (c .before .before .path-at .ensures) (c .before .is-compatible .ensures) (c .if2 .left)),
+      records-next _ _ _ (a .before .before .loop .inv .2) (omega arith) (a .if1 .left)
+          (look-compatible _ _ _ _ _ _ _ false (c .before .before .before .wide .ensures) (c .before .before .path-at .ensures)
+          (c .before .is-compatible .ensures) (c .if2 .left)),
     )
 
 returns-3 : tie.Need-returns-3 Inv-loop μ-loop
 unfolding bestRecord
-returns-3 c = records-none _ _ (c .before .loop .k) (c .before .loop .inv .1) (omega (arith, good-length (eInt w16) 16 (c .before .before .before .before .before .args .t4) _ (c .before .before .before .before .before .good .1 .1 .1 .0)))
+returns-3 c = records-none _ _ (c .before .loop .k) (c .before .loop .inv .2) (omega arith)
 
 pub best-record-spec : {M : Type 1} → statement M
 best-record-spec =
     tie.close
-    (tie.spec
-    Inv-loop
-    μ-loop
-    loop-holds
-    mul-i
-    array-read-i
-    returns
-    wide-requires
-    path-at-requires
-    is-compatible-requires
-    returns-2
-    add-k
-    loop-less
-    loop-again
-    returns-3)
+    (tie.spec Inv-loop μ-loop loop-holds mul-i array-read-i returns wide-requires path-at-requires is-compatible-requires
+    returns-2 add-k loop-less loop-again returns-3)

@@ -1,6 +1,6 @@
 -- `judge::is_compatible` meets its contract: what is left of the path from that hop on tells the answer.
 -- Assumes nothing.
-use mathlib.Core.Path.{_≡_, refl, sym}
+use mathlib.Core.Path.{_≡_, refl}
 use Prim.Native.Nat.{_-_}
 use native.Mathlib.Omega.{arith}
 use lib.ListN.{length, drop}
@@ -43,8 +43,8 @@ agrees-requires c κs = omega arith
 returns : tie.Need-returns Inv-loop μ-loop
 returns c =
     let a = c .before .before .before .before .before in
-    compatible-hit _ _ _ _ _ (a .before .loop .inv) (a .loop-test .taken) _ (c .before .before .before .is-settled .ensures) _ (c .before .before .if1 .taken)
-    (c .agrees .ensures)
+    compatible-hit _ _ _ _ _ (a .before .loop .inv) (a .loop-test .taken) _ (c .before .before .before .is-settled .ensures) _
+    (c .before .before .if1 .taken) (c .agrees .ensures)
 
 add-hop : tie.Need-add-hop Inv-loop μ-loop
 add-hop c = omega arith
@@ -63,19 +63,5 @@ returns-2 c = compatible-end _ _ _ _ _ (c .before .loop .inv) (c .loop-test .lef
 pub is-compatible-spec : {M : Type 1} → statement M
 is-compatible-spec =
     tie.close
-    (tie.spec
-    Inv-loop
-    μ-loop
-    loop-holds
-    shared-slice-read-v
-    cast-v
-    is-settled-requires
-    sub-agrees
-    part-agrees-start
-    part-agrees-end
-    agrees-requires
-    returns
-    add-hop
-    loop-less
-    loop-again
-    returns-2)
+    (tie.spec Inv-loop μ-loop loop-holds shared-slice-read-v cast-v is-settled-requires sub-agrees part-agrees-start
+    part-agrees-end agrees-requires returns add-hop loop-less loop-again returns-2)

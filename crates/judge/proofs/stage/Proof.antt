@@ -13,7 +13,8 @@ use Rattle.judge.proofs.stage.Statement.{statement}
 use Rattle.judge.proofs.stage.Tie as tie
 
 abbrev Inv-loop : tie.InvT-loop
-Inv-loop t number slots marks shown next-marks₀ next-shown₀ v₀ next-marks next-shown v = (length marks ≡ 64) × (length shown ≡ 64) × (v ≤ 64) × Judged t slots marks shown number v next-marks next-shown
+Inv-loop t number slots marks shown next-marks₀ next-shown₀ v₀ next-marks next-shown v =
+    (length marks ≡ 64) × (length shown ≡ 64) × (v ≤ 64) × Judged t slots marks shown number v next-marks next-shown
 
 abbrev μ-loop : tie.MeasureT-loop
 μ-loop t number slots marks shown next-marks₀ next-shown₀ v₀ next-marks next-shown v = 64 - v
@@ -114,27 +115,7 @@ returns c = judged-all _ _ _ _ _ _ _ _ (c .before .loop .inv .0) (c .before .loo
 pub stage-spec : {M : Type 1} → statement M
 stage-spec =
     tie.close
-    (tie.spec
-    Inv-loop
-    μ-loop
-    loop-holds
-    add-v
-    slice-aggregate-is-judged
-    is-judged-requires
-    loop-less
-    loop-again
-    slice-aggregate-best-record
-    slice-aggregate-best-record-2
-    mul-best-record
-    array-copy-out-best-record
-    best-record-requires
-    mul-next-shown
-    array-write-next-shown
-    slice-aggregate-enters
-    enters-requires
-    loop-less-2
-    loop-again-2
-    array-write-next-marks
-    loop-less-3
-    loop-again-3
-    returns)
+    (tie.spec Inv-loop μ-loop loop-holds add-v slice-aggregate-is-judged is-judged-requires loop-less loop-again
+    slice-aggregate-best-record slice-aggregate-best-record-2 mul-best-record array-copy-out-best-record best-record-requires
+    mul-next-shown array-write-next-shown slice-aggregate-enters enters-requires loop-less-2 loop-again-2 array-write-next-marks
+    loop-less-3 loop-again-3 returns)

@@ -27,7 +27,9 @@ same-length : tie.Need-same-length
 same-length c = search needs
 
 returns : tie.Need-returns
-returns c = printed-check _ _ _ _ _ _ _ (c .before .before .before .before .before .before .before .before .check .ensures) (c .before .before .print .ensures)
+returns c =
+    let printed = c .before .before in
+    printed-check _ _ _ _ _ _ _ (printed .before .before .before .before .before .before .check .ensures) (printed .print .ensures)
 
 pub check-text-spec : {M : Type 1} → statement M
 check-text-spec =

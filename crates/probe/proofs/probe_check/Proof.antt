@@ -67,20 +67,5 @@ returns-3 c =
 pub probe-check-spec : {M : Type 1} → statement M
 probe-check-spec =
     tie.close
-    (tie.spec
-    check-requires
-    enum-told
-    same-length
-    same-length-2
-    returns
-    enum-told-2
-    same-length-3
-    same-length-4
-    returns-2
-    enum-known-verdict
-    cast-result
-    mul-result
-    add-result
-    same-length-5
-    same-length-6
-    returns-3)
+    (tie.spec check-requires enum-told same-length same-length-2 returns enum-told-2 same-length-3 same-length-4 returns-2
+    enum-known-verdict cast-result mul-result add-result same-length-5 same-length-6 returns-3)

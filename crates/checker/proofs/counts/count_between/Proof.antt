@@ -33,7 +33,8 @@ loop-less c = omega arith
 loop-again : tie.Need-loop-again Inv-loop μ-loop
 loop-again c =
     let a = c .before .before .before .before in
-    (omega arith, omega arith, count-skip _ _ _ (a .loop .v) _ (a .before .before .pre) (a .loop .inv .0) (c .before .before .before .loop-test .taken) (a .loop .inv .2) _ (c .before .is-outside .ensures) (c .if1 .taken))
+    let skip = count-skip _ _ _ (a .loop .v) _ (a .before .before .pre) (a .loop .inv .0) (c .before .before .before .loop-test .taken) in
+    (omega arith, omega arith, skip (a .loop .inv .2) _ (c .before .is-outside .ensures) (c .if1 .taken))
 
 add-count : tie.Need-add-count Inv-loop μ-loop
 add-count c =
@@ -46,7 +47,8 @@ loop-less-2 c = omega arith
 loop-again-2 : tie.Need-loop-again-2 Inv-loop μ-loop
 loop-again-2 c =
     let a = c .before .before .before .before in
-    (omega arith, omega arith, count-more _ _ _ (a .loop .v) _ (a .before .before .pre) (a .loop .inv .0) (c .before .before .before .loop-test .taken) (a .loop .inv .2) _ (c .before .is-outside .ensures) (c .if1 .left))
+    let more = count-more _ _ _ (a .loop .v) _ (a .before .before .pre) (a .loop .inv .0) (c .before .before .before .loop-test .taken) in
+    (omega arith, omega arith, more (a .loop .inv .2) _ (c .before .is-outside .ensures) (c .if1 .left))
 
 returns : tie.Need-returns Inv-loop μ-loop
 unfolding countBetween
@@ -58,16 +60,5 @@ returns c =
 pub count-between-spec : {M : Type 1} → statement M
 count-between-spec =
     tie.close
-    (tie.spec
-    Inv-loop
-    μ-loop
-    loop-holds
-    add-v
-    shared-slice-read-is-outside
-    is-outside-requires
-    loop-less
-    loop-again
-    add-count
-    loop-less-2
-    loop-again-2
-    returns)
+    (tie.spec Inv-loop μ-loop loop-holds add-v shared-slice-read-is-outside is-outside-requires loop-less loop-again add-count
+    loop-less-2 loop-again-2 returns)

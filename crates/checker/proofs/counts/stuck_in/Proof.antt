@@ -4,7 +4,7 @@ use mathlib.Core.Path.{_≡_, refl, sym, ap, _∙_}
 use mathlib.Core.Bool.{false}
 use Prim.Native.Nat.{ℕ, _≤_, _-_}
 use native.Mathlib.Omega.{arith}
-use lib.ListN.{length, getD, take, length-set, length-replicate}
+use lib.ListN.{length, take, length-set, length-replicate}
 use lib.Dec.{eqb}
 use Rattle.lists.specs.Fill.{tabulate}
 use Rattle.lists.specs.FillLaws.{tabulate-none, fill-more, fill-end}
@@ -40,7 +40,8 @@ loop-again c =
     let a = c .before .before in (
       omega arith,
       length-set (a .loop .stuck) (a .loop .v) _ ∙ a .loop .inv .1,
-      fill-more _ _ _ (a .loop .v) _ (a .loop .inv .2) (omega arith) refl (ap (λ (m : ℕ). eqb m 255) (getD-within (a .before .args .marks .now) (a .loop .v) 0 254 (omega arith))),
+      fill-more _ _ _ (a .loop .v) _ (a .loop .inv .2) (omega arith) refl
+          (ap (λ (m : ℕ). eqb m 255) (getD-within (a .before .args .marks .now) (a .loop .v) 0 254 (omega arith))),
     )
 
 returns : tie.Need-returns Inv-loop μ-loop
@@ -49,13 +50,4 @@ returns c = fill-end _ _ _ _ (c .before .loop .inv .2) (sym (c .before .loop .in
 pub stuck-in-spec : {M : Type 1} → statement M
 stuck-in-spec =
     tie.close
-    (tie.spec
-    Inv-loop
-    μ-loop
-    loop-holds
-    shared-slice-read-stuck
-    array-write-stuck
-    add-v
-    loop-less
-    loop-again
-    returns)
+    (tie.spec Inv-loop μ-loop loop-holds shared-slice-read-stuck array-write-stuck add-v loop-less loop-again returns)

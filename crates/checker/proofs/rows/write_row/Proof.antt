@@ -52,14 +52,5 @@ returns c =
 pub write-row-spec : {M : Type 1} → statement M
 write-row-spec =
     tie.close
-    (tie.spec
-    slice-write-part
-    slice-write-part-2
-    hops-of-requires
-    slice-write-part-3
-    sub-fill-padded
-    part-fill-padded-start
-    part-fill-padded-end
-    fill-padded-requires
-    same-length
-    returns)
+    (tie.spec slice-write-part slice-write-part-2 hops-of-requires slice-write-part-3 sub-fill-padded part-fill-padded-start
+    part-fill-padded-end fill-padded-requires same-length returns)

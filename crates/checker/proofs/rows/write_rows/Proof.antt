@@ -102,28 +102,7 @@ returns c = all-written _ _ _ _ _ (c .before .loop .inv .2) (omega arith) (c .be
 pub write-rows-spec : {M : Type 1} → statement M
 write-rows-spec =
     tie.close
-    (tie.spec
-    Inv-loop
-    μ-loop
-    slice-relend-prefix-write-row
-    slice-aggregate-write-row
-    slice-aggregate-write-row-2
-    write-row-requires
-    loop-holds
-    mul-at
-    add-end
-    mul-i
-    shared-slice-read-i
-    cast-i
-    sub-write-row
-    part-write-row-start
-    part-write-row-end
-    shared-slice-read-write-row
-    rank-at-requires
-    path-at-requires
-    write-row-requires-2
-    add-v
-    loop-less
-    loop-again
-    same-length
-    returns)
+    (tie.spec Inv-loop μ-loop slice-relend-prefix-write-row slice-aggregate-write-row slice-aggregate-write-row-2
+    write-row-requires loop-holds mul-at add-end mul-i shared-slice-read-i cast-i sub-write-row part-write-row-start
+    part-write-row-end shared-slice-read-write-row rank-at-requires path-at-requires write-row-requires-2 add-v loop-less
+    loop-again same-length returns)

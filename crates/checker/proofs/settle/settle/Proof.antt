@@ -1,6 +1,6 @@
 -- `checker::settle::settle` meets its contract: the marks and records are those after s stages.
 -- Assumes nothing.
-use mathlib.Core.Path.{_≡_, refl, sym, ap, _∙_}
+use mathlib.Core.Path.{_≡_, sym, ap, _∙_}
 use mathlib.Core.Option.{none}
 use Prim.Native.Nat.{_≤_, _-_, min}
 use native.Mathlib.Omega.{arith}
@@ -16,7 +16,12 @@ use Rattle.checker.proofs.settle.settle.Statement.{statement}
 use Rattle.checker.proofs.settle.settle.Tie as tie
 
 abbrev Inv-loop : tie.InvT-loop
-Inv-loop t slots now₀ s₀ now s = (refusal t ≡ none) × (slots ≡ slotsOf t (min (records t) 1008)) × (s ≤ stageCount (pathsOf t) (present t)) × Stands t s (now .marks) (now .shown)
+Inv-loop t slots now₀ s₀ now s =
+    (refusal t ≡ none)
+    × (slots ≡ slotsOf t (min (records t) 1008))
+    × (s ≤ stageCount (pathsOf t) (present t))
+    × Stands t s (now .marks) (now .shown)
+    × (stageCount (pathsOf t) (present t) ≤ 63)
 
 abbrev μ-loop : tie.MeasureT-loop
 μ-loop t slots now₀ s₀ now s = 64 - s
@@ -30,16 +35,16 @@ start-marks-requires c κs = tt
 loop-holds : tie.Need-loop-holds Inv-loop μ-loop
 loop-holds c =
     let a = c .before .before .before in
-    (a .pre .0, a .pre .1, omega arith, settle-start _ (a .pre .0) _ _ (c .before .present-in .ensures) (c .start-marks .ensures))
+    (a .pre .0, a .pre .1, omega arith, settle-start _ (a .pre .0) _ _ (c .before .present-in .ensures) (c .start-marks .ensures), stages-most _ _)
 
 add-stage : tie.Need-add-stage Inv-loop μ-loop
-add-stage c = let a = c .before in omega (arith, a .loop .inv .2, stages-most (pathsOf (a .before .before .before .before .args .t .now)) (present (a .before .before .before .before .args .t .now)))
+add-stage c = omega arith
 
 stage-requires : tie.Need-stage-requires Inv-loop μ-loop
 stage-requires c κs = tt
 
 slice-aggregate-same-parts : tie.Need-slice-aggregate-same-parts Inv-loop μ-loop
-slice-aggregate-same-parts c = sym (ap length (c .before .before .before .before .loop .inv .3 .marked) ∙ tabulate-length _ 64)
+slice-aggregate-same-parts c = omega arith
 
 slice-aggregate-same-parts-2 : tie.Need-slice-aggregate-same-parts-2 Inv-loop μ-loop
 slice-aggregate-same-parts-2 c = sym (ap length (c .before .before .before .stage .ensures .0) ∙ tabulate-length _ 64)
@@ -51,36 +56,25 @@ returns : tie.Need-returns Inv-loop μ-loop
 returns c =
     let g = c .before .before .before .before .before .before in
     let i = g .before .before .loop .inv in
-    settle-end _ (i .0) _ _ _ (i .3) _ (i .1) (i .2) _ _ (g .stage .ensures .0) (g .stage .ensures .1) _ (c .before .before .same-parts .ensures) (c .before .if1 .taken)
+    settle-end _ (i .0) _ _ _ (i .3) _ (i .1) (i .2) _ _ (g .stage .ensures .0) (g .stage .ensures .1) _
+    (c .before .before .same-parts .ensures) (c .before .if1 .taken)
 
 add-s : tie.Need-add-s Inv-loop μ-loop
-add-s c = let a = c .before .before .before .before .before .before .before in omega (arith, a .loop .inv .2, stages-most (pathsOf (a .before .before .before .before .args .t .now)) (present (a .before .before .before .before .args .t .now)))
+add-s c = omega arith
 
 loop-less : tie.Need-loop-less Inv-loop μ-loop
-loop-less c = let a = c .before .before .before .before .before .before .before in omega (arith, a .loop .inv .2, stages-most (pathsOf (a .before .before .before .before .args .t .now)) (present (a .before .before .before .before .args .t .now)))
+loop-less c = omega arith
 
 loop-again : tie.Need-loop-again Inv-loop μ-loop
 loop-again c =
     let g = c .before .before .before .before .before in
     let i = g .before .before .loop .inv in
-    let more = settle-more _ (i .0) _ _ _ (i .3) _ (i .1) (i .2) _ _ (g .stage .ensures .0) (g .stage .ensures .1) _ (c .before .same-parts .ensures) (c .if1 .left) in
-    (i .0, i .1, more .0, more .1)
+    let more = settle-more _ (i .0) _ _ _ (i .3) _ (i .1) (i .2) _ _ (g .stage .ensures .0) (g .stage .ensures .1) _
+    (c .before .same-parts .ensures) (c .if1 .left) in
+    (i .0, i .1, more .0, more .1, i .4)
 
 pub settle-spec : {M : Type 1} → statement M
 settle-spec =
     tie.close
-    (tie.spec
-    Inv-loop
-    μ-loop
-    present-in-requires
-    start-marks-requires
-    loop-holds
-    add-stage
-    stage-requires
-    slice-aggregate-same-parts
-    slice-aggregate-same-parts-2
-    same-parts-requires
-    returns
-    add-s
-    loop-less
-    loop-again)
+    (tie.spec Inv-loop μ-loop present-in-requires start-marks-requires loop-holds add-stage stage-requires
+    slice-aggregate-same-parts slice-aggregate-same-parts-2 same-parts-requires returns add-s loop-less loop-again)

@@ -51,14 +51,5 @@ returns c = fill-end _ _ _ _ (c .before .loop .inv .2) (sym (c .before .loop .in
 pub start-marks-spec : {M : Type 1} → statement M
 start-marks-spec =
     tie.close
-    (tie.spec
-    Inv-loop
-    μ-loop
-    loop-holds
-    array-read-start-mark
-    start-mark-requires
-    array-write-marks
-    add-v
-    loop-less
-    loop-again
+    (tie.spec Inv-loop μ-loop loop-holds array-read-start-mark start-mark-requires array-write-marks add-v loop-less loop-again
     returns)
