@@ -2,3 +2,4 @@
 pub mod Standing
 pub mod StandingLaws
 pub mod SlotLaws
+pub mod OneResult

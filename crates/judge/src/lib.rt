@@ -46,7 +46,7 @@ fn agrees(t: &[u8], shown: &[u16], v: usize, rest: &[u8]) -> bool
 }
 
 // Whether a path is compatible: only its first settled vertex decides.
-pub fn is_compatible(t: &[u8], marks: &[u8], shown: &[u16], path: &[u8]) -> bool
+fn is_compatible(t: &[u8], marks: &[u8], shown: &[u16], path: &[u8]) -> bool
     ensures { λ r. ⌜ r ≡ compatible (settledBy (now (t .entry)) (now (marks .entry)) (now (shown .entry))) (now (path .entry)) ⌝ }
 {
     let mut hop = 0;
@@ -68,7 +68,7 @@ fn wide(number: u16) -> usize
 }
 
 // The record of the best compatible path among a vertex's slots, 65,535 where there is none.
-pub fn best_record(t: &[u8], marks: &[u8], shown: &[u16], slots: [u16; 16]) -> u16
+fn best_record(t: &[u8], marks: &[u8], shown: &[u16], slots: [u16; 16]) -> u16
     ensures { λ r. ⌜ r ≡ bestRecord (now (t .entry)) (now (marks .entry)) (now (shown .entry)) slots ⌝ }
 {
     let mut k = 0;

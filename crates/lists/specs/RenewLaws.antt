@@ -36,10 +36,6 @@ module _ {A : Type 0} (f : ℕ → A) (old : List A) where
   unfolding renewed
   renewed-all k e = let h : length old ≤ k = omega arith in rw (drop-of-length-le old h) (append-nil (tabulate f k))
 
-  pub renewed-length : (k : ℕ) → k ≤ length old → length (renewed f old k) ≡ length old
-  unfolding renewed
-  renewed-length k h = rw (length-append (tabulate f k) (drop k old), tabulate-length f k) (omega (arith, length-drop k old))
-
 -- a list that is filled from the front with blocks of n elements, and has come to the block k: ys is written over it
 
 module _ {A : Type 0} (f : ℕ → List A) (n : ℕ) (even : (k : ℕ) → length (f k) ≡ n) where

@@ -8,7 +8,7 @@ use native.Mathlib.Omega.{arith}
 use Rattle.lists.specs.Tests.{by-test}
 use Rattle.rules.specs.Refusals.{Refusal, refusal, refusedIf, _orElse_}
 use Rattle.rules.specs.Accepted.{told}
-use Rattle.rules.specs.Answers.{otherLength, checkRefusal, verdict, verdictOf, checkVerdict}
+use Rattle.rules.specs.Answers.{otherLength, checkRefusal, verdict, verdictOf, checkVerdict, rowsAfter, ringAfter}
 use Rattle.answer.specs.declared.Verdict.{Verdict}
 use Rattle.answer.specs.declared.Verdict.the-variants.{Complete, Stuck, Refused}
 use Rattle.answer.specs.Meaning.{meaning}
@@ -65,3 +65,14 @@ module _ (t rows ring : List ℕ) (v : Verdict) (says : meaning v ≡ checkVerdi
 
   pub refusal-small : (a k : ℕ) → v ≡ Refused a k → k < 1008
   refusal-small a k e = check-place t rows ring (record { number = a; place = k }) (told-refusal a k e)
+
+-- any two numbers and buffer contents that the contract of `probe_check` allows for one input are equal
+abbrev pub Probed : List ℕ → List ℕ → List ℕ → ℕ → List ℕ → List ℕ → Type 0
+Probed t rows ring n rowsNow ringNow =
+    (n ≡ codeOf (checkRefusal t rows ring)) × ((rowsNow ≡ rowsAfter t rows ring) × (ringNow ≡ ringAfter t rows ring))
+
+pub one-probe : (t rows ring : List ℕ) (n m : ℕ) (a b p q : List ℕ)
+    → Probed t rows ring n a p
+    → Probed t rows ring m b q
+    → (n ≡ m) × (a ≡ b) × (p ≡ q)
+one-probe t rows ring n m a b p q x y = (x .0 ∙ sym (y .0), x .1 .0 ∙ sym (y .1 .0), x .1 .1 ∙ sym (y .1 .1))
