@@ -29,7 +29,9 @@ use Rattle.judge.specs.StandingLaws.{holds-record, settled-holds}
 use Rattle.ring.specs.Ring.{ringIn}
 use Rattle.ring.specs.RingLaws.{ring-agrees}
 use Rattle.checker.specs.Settling.{markAt, Own, Ended}
-use Rattle.checker.specs.SettlingLaws.{few-records, no-path, mark-absent, mark-waits, mark-settled, stage-small, stage-origin}
+use Rattle.checker.specs.BestLaws.{few-records, no-path}
+use Rattle.checker.specs.MarkLaws.{mark-absent, mark-waits, mark-settled, stage-small}
+use Rattle.checker.specs.StartLaws.{stage-origin}
 use Rattle.checker.specs.Rows.{shownRow, isBetween, countBetween}
 
 -- the rank byte of what a vertex shows is the rank of its path

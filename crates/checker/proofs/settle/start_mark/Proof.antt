@@ -1,6 +1,6 @@
 -- `checker::settle::start_mark` meets its contract: three cases.
 -- Assumes nothing.
-use Rattle.checker.specs.SettlingLaws.{start-origin, start-present, start-absent}
+use Rattle.checker.specs.StartLaws.{start-origin, start-present, start-absent}
 use Rattle.checker.proofs.settle.start_mark.Statement.{statement}
 use Rattle.checker.proofs.settle.start_mark.Tie as tie
 

@@ -8,7 +8,7 @@ use lib.ListN.{length, getD, take, length-set, length-replicate}
 use Rattle.lists.specs.Fill.{tabulate}
 use Rattle.lists.specs.FillLaws.{tabulate-none, fill-more, fill-end}
 use Rattle.checker.specs.Settling.{startMark}
-use Rattle.checker.specs.SettlingLaws.{start-same}
+use Rattle.checker.specs.StartLaws.{start-same}
 use Rattle.checker.proofs.settle.start_marks.Statement.{statement}
 use Rattle.checker.proofs.settle.start_marks.Tie as tie
 

@@ -1,0 +1,48 @@
+-- What the mark of a vertex says after k stages.
+use mathlib.Core.Path.{_≡_, sym, _∙_}
+use mathlib.Core.Bool.{true, false}
+use mathlib.Core.List.{List}
+use mathlib.Core.Option.{none, some}
+use Prim.Native.Nat.{ℕ, _-_, _≤_}
+use native.Mathlib.Omega.{arith}
+use Rattle.lists.specs.Tests.{by-test, by-option}
+use Rattle.rules.specs.Table.{Path, pathsOf, present}
+use Rattle.rules.specs.Greedy.{Settled, isSettled, settled, stageOf}
+use Rattle.lists.specs.Search.{firstFrom}
+use Rattle.lists.specs.SearchLaws.{first-found}
+use Rattle.checker.specs.Settling.{markAt}
+
+-- what a mark says
+
+module _ (t : List ℕ) (k v : ℕ) where
+  abbrev S : Settled
+  S = settled (pathsOf t) (present t) k
+
+  pub mark-absent : present t v ≡ false → markAt t k v ≡ 254
+  unfolding markAt
+  mark-absent h = rw (h, markAt)
+
+  pub mark-waits : present t v ≡ true → S v ≡ none → markAt t k v ≡ 255
+  unfolding markAt isSettled
+  mark-waits h q = rw (h, q, markAt)
+
+  pub mark-settled : (p : Path) → present t v ≡ true → S v ≡ some p → markAt t k v ≡ stageOf (pathsOf t) (present t) v
+  unfolding markAt isSettled
+  mark-settled p h q = rw (h, q, markAt)
+
+-- it depends on what is settled of the vertex alone
+pub mark-same : (t : List ℕ) (j k v : ℕ) → settled (pathsOf t) (present t) j v ≡ settled (pathsOf t) (present t) k v → markAt t j v ≡ markAt t k v
+mark-same t j k v q =
+    by-test (present t v)
+    (λ a. by-option (settled (pathsOf t) (present t) k v)
+    (λ n. mark-waits t j v a (q ∙ n) ∙ sym (mark-waits t k v a n))
+    (λ p n. mark-settled t j v p a (q ∙ n) ∙ sym (mark-settled t k v p a n)))
+    (λ a. mark-absent t j v a ∙ sym (mark-absent t k v a))
+
+-- no stage is above 64
+pub stage-small : (t : List ℕ) (v : ℕ) → stageOf (pathsOf t) (present t) v ≤ 64
+unfolding stageOf
+stage-small t v =
+    by-option (firstFrom (λ k. isSettled (settled (pathsOf t) (present t) k v)) 0 64)
+    (λ q. rw (q, stageOf) (omega arith))
+    (λ n q. rw (q, stageOf) (omega (arith, first-found (λ k. isSettled (settled (pathsOf t) (present t) k v)) 0 64 n q .under)))
