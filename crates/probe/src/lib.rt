@@ -101,8 +101,8 @@ pub extern "C" fn probe_check(table: &[u8], rows: &mut [u8], ring: &mut [u8]) ->
         Verdict::Stuck(_) => {
             return 0;
         }
-        Verdict::Refused(number, place) => {
-            return number as u64 + 256 * (place as u64);
+        Verdict::Refused(number, at) => {
+            return number as u64 + 256 * (at as u64);
         }
     }
 }
