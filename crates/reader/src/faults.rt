@@ -4,6 +4,7 @@ ghost use Prim.Native.Nat.{_+_, _≤_, _<_};
 ghost use Rattle.rules.specs.Table.{records, recordAt, hopsAt};
 ghost use Rattle.rules.specs.Refusals.{hopsBad, vertexBad, fillerBad, twiceBad, lastBad, ownerBad, rankDue, rankBad, pathBad, fault};
 ghost use Rattle.rules.specs.TableLaws.{Orderly};
+ghost use Rattle.reader.specs.Front.{front};
 use parts::any_outside;
 use parts::byte_at;
 use parts::has_twice;
@@ -91,15 +92,26 @@ pub(crate) fn rank_bad(t: &[u8], i: usize) -> bool
     rank as u16 != rank_due(t, i)
 }
 
+// The first bytes of record i behind its rank: hops and path, where there are hops + 2 of them.
+fn front_at(t: &[u8], i: usize, count: usize) -> &[u8]
+    requires { ⌜ (i < records (now t)) × (count ≤ 15) ⌝ }
+    ensures { λ r. ⌜ now r ≡ front (now (t .entry)) i count ⌝ }
+{
+    let at = i * 16 + 1;
+    let end = at + count;
+    &t[at..end]
+}
+
 // Refusal 11: only the records of this owner's block can have the same path, and the rank tells where it starts.
 pub(crate) fn path_bad(t: &[u8], i: usize) -> bool
-    requires { ⌜ (i < records (now t)) × Orderly (now t) (i + 1) ⌝ }
+    requires { ⌜ (i < records (now t)) × (hopsAt (now t) i ≤ 12) × Orderly (now t) (i + 1) ⌝ }
     ensures { λ r. ⌜ r ≡ pathBad (now (t .entry)) i ⌝ }
 {
-    let path = path_at(t, i);
+    let count = hops_at(t, i) as usize + 2;
+    let path = front_at(t, i, count);
     let mut j = i + 1 - rank_at(t, i) as usize;
     while j < i {
-        if same_parts(path_at(t, j), path) {
+        if same_parts(front_at(t, j, count), path) {
             return true;
         }
         j += 1;

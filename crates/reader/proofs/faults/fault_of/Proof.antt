@@ -1,8 +1,9 @@
 -- `reader::faults::fault_of` meets its contract: the tests stand in the order of the rules.
 -- Assumes nothing.
 use mathlib.Core.Path.{refl, sym, _∙_}
-use Prim.Native.Nat.{ℕ}
+use Prim.Native.Nat.{ℕ, _≤_}
 use borrow.Author.Needs.{needs}
+use Rattle.rules.specs.Table.{hopsAt}
 use Rattle.rules.specs.Refusals.{recordRules, rule, inRecord, firstBroken}
 use Rattle.rules.specs.TableLaws.{Past, past-none, past-more, past-stop, hops-small, orderly-more}
 use Rattle.reader.proofs.faults.fault_of.Statement.{statement}
@@ -82,9 +83,12 @@ returns-2 : tie.Need-returns-2
 unfolding recordRules rule inRecord
 returns-2 c = past-stop _ _ 1 _ _ refl (past1 (c .before .before)) (c .before .vertex-bad .ensures) (c .if2 .taken)
 
+-- hops are at most 12 where rule 4 is kept
+hops12 : (c : tie.Else1) → hopsAt (start1 c .args .t .now) (start1 c .args .i) ≤ 12
+hops12 c = hops-small _ _ _ (c .before .hops-bad .ensures) (c .if1 .left)
+
 filler-bad-requires : tie.Need-filler-bad-requires
-filler-bad-requires c κs =
-    (start2 c .pre .0, hops-small _ _ _ (c .before .before .before .hops-bad .ensures) (c .before .before .if1 .left))
+filler-bad-requires c κs = (start2 c .pre .0, hops12 (c .before .before))
 
 returns-3 : tie.Need-returns-3
 unfolding recordRules rule inRecord
@@ -122,6 +126,7 @@ path-bad-requires : tie.Need-path-bad-requires
 path-bad-requires c κs =
     let k = c .before .before in (
       start7 c .pre .0,
+      hops12 (k .before .before .before .before .before .before .before .before .before .before),
       orderly-more _ _ (start7 c .pre .1)
           (sym (k .before .owner-bad .ensures) ∙ k .if6 .left) (sym (c .before .rank-bad .ensures) ∙ c .if7 .left),
     )
