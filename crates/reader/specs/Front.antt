@@ -1,4 +1,5 @@
--- The bytes of a record behind its rank: hops and path stand side by side, so two paths are the same where these bytes are.
+-- A record as a table of its own, and its bytes behind the rank: hops and path stand side by side, so two paths are the same where
+-- these bytes are.
 use mathlib.Core.Path.{_≡_, refl, sym, ap, _∙_}
 use mathlib.Core.Bool.{Bool}
 use mathlib.Core.List.{List, _∷_}
@@ -24,6 +25,24 @@ front-part t i n at e h p q =
     let m : at ≡ 16 * i + 1 = omega arith in
     let f : 16 - 1 ≡ 15 = omega arith in
     rw (k, m, rest-of-first 1 16 (drop (16 * i) t), f, take-take n 15 (drop 1 (drop (16 * i) t)) h, drop-drop 1 (16 * i) t)
+
+-- record i as a table of its own
+
+pub alone-part : (t : List ℕ) (i e : ℕ) → e ≡ i * 16 + 16 → take (e - i * 16) (drop (i * 16) t) ≡ recordAt t i
+unfolding recordAt
+alone-part t i e q =
+    let k : e - i * 16 ≡ 16 = omega arith in
+    let m : i * 16 ≡ 16 * i = omega arith in
+    rw (k, m)
+
+module _ (t : List ℕ) (i : ℕ) (r : List ℕ) (e : r ≡ recordAt t i) where
+  pub alone-record : recordAt r 0 ≡ recordAt t i
+  unfolding recordAt
+  alone-record = rw e (take-take 16 16 (drop (16 * i) t) (omega arith))
+
+  pub alone-there : i < records t → 0 < records r
+  unfolding records
+  alone-there h = omega (arith, ap length e, record-length t i h)
 
 -- hops x and y in front of the rest of two records, y the hops of the second
 same-fronts : (x y : ℕ) (xs ys : List ℕ)
