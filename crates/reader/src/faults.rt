@@ -117,9 +117,10 @@ pub(crate) fn path_bad(t: &[u8], i: usize) -> bool
     requires { ⌜ (i < records (now t)) × (hopsAt (now t) i ≤ 12) × Orderly (now t) (i + 1) ⌝ }
     ensures { λ r. ⌜ r ≡ pathBad (now (t .entry)) i ⌝ }
 {
-    let count = hops_at(t, i) as usize + 2;
+    let r = alone(t, i);
+    let count = hops_at(r, 0) as usize + 2;
     let path = front_at(t, i, count);
-    let mut j = i + 1 - rank_at(t, i) as usize;
+    let mut j = i + 1 - rank_at(r, 0) as usize;
     while j < i {
         if same_parts(front_at(t, j, count), path) {
             return true;

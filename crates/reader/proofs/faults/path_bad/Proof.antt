@@ -1,14 +1,14 @@
 -- `reader::faults::path_bad` meets its contract: the block of the owner begins where its rank says, and no record before it has the path.
 -- Assumes nothing.
-use mathlib.Core.Path.{_≡_, refl, ap}
+use mathlib.Core.Path.{_≡_, refl, ap, _∙_}
 use mathlib.Core.Bool.{false}
 use Prim.Native.Nat.{ℕ, _+_, _≤_, _-_}
 use native.Mathlib.Omega.{arith}
 use borrow.Author.Needs.{needs}
 use Rattle.lists.specs.Search.{anyBelow}
-use Rattle.rules.specs.Table.{records}
+use Rattle.rules.specs.Table.{records, hopsOf, rankOf, hopsAt, rankAt}
 use Rattle.rules.specs.TableLaws.{samePath, block-fits, block-start, path-hit, path-next, path-end}
-use Rattle.reader.specs.Front.{front-same}
+use Rattle.reader.specs.Front.{alone-record, front-same}
 use Rattle.reader.proofs.faults.path_bad.Statement.{statement}
 use Rattle.reader.proofs.faults.path_bad.Tie as tie
 
@@ -17,6 +17,20 @@ Inv-loop t i count path j₀ j = (j ≤ i) × (anyBelow (samePath t i) j ≡ fal
 
 abbrev μ-loop : tie.MeasureT-loop
 μ-loop t i count path j₀ j = i - j
+
+-- hops and rank are those of record i
+
+hops-read : (c : tie.After-hops-at Inv-loop μ-loop)
+    → c .hops-at .result ≡ hopsAt (c .before .before .before .args .t .now) (c .before .before .before .args .i)
+hops-read c = c .hops-at .ensures ∙ ap hopsOf (alone-record _ _ _ (c .before .alone .ensures))
+
+rank-read : (c : tie.After-rank-at Inv-loop μ-loop)
+    → c .rank-at .result
+    ≡ rankAt (c .before .before .before .before .before .args .t .now) (c .before .before .before .before .before .args .i)
+rank-read c = c .rank-at .ensures ∙ ap rankOf (alone-record _ _ _ (c .before .before .before .alone .ensures))
+
+alone-requires : tie.Need-alone-requires Inv-loop μ-loop
+alone-requires c κs = c .before .pre .0
 
 hops-at-requires : tie.Need-hops-at-requires Inv-loop μ-loop
 hops-at-requires c κs = search needs
@@ -28,7 +42,7 @@ add-count : tie.Need-add-count Inv-loop μ-loop
 add-count c = omega arith
 
 front-at-requires : tie.Need-front-at-requires Inv-loop μ-loop
-front-at-requires c κs = (c .before .before .pre .0, omega arith)
+front-at-requires c κs = (c .before .before .before .pre .0, omega (arith, hops-read c, c .before .before .before .pre .1))
 
 add-j : tie.Need-add-j Inv-loop μ-loop
 unfolding records
@@ -41,29 +55,32 @@ cast-j : tie.Need-cast-j Inv-loop μ-loop
 cast-j c = omega arith
 
 sub-j : tie.Need-sub-j Inv-loop μ-loop
-sub-j c = omega (arith, block-fits _ _ (c .before .before .before .before .pre .2) _ (c .rank-at .ensures) .1)
+sub-j c = omega (arith, block-fits _ _ (c .before .before .before .before .before .pre .2) _ (rank-read c) .1)
 
 loop-holds : tie.Need-loop-holds Inv-loop μ-loop
 loop-holds c =
-    let o = c .before .before .before .before .pre .2 in
-    let f = block-fits _ _ o _ (c .rank-at .ensures) in
-    (omega arith, block-start _ _ o _ (c .rank-at .ensures))
+    let o = c .before .before .before .before .before .pre .2 in
+    let f = block-fits _ _ o _ (rank-read c) in
+    (omega arith, block-start _ _ o _ (rank-read c))
 
 front-at-requires-2 : tie.Need-front-at-requires-2 Inv-loop μ-loop
-front-at-requires-2 c κs = let s = c .before .before .before .before .before .before in (omega (arith, s .pre .0), omega (arith, s .pre .1))
+front-at-requires-2 c κs =
+    let r = c .before .before .before .before in
+    let s = r .before .before .before in
+    (omega (arith, s .pre .0), omega (arith, s .pre .1, hops-read r))
 
 same-parts-requires : tie.Need-same-parts-requires Inv-loop μ-loop
 same-parts-requires c κs = search needs
 
 -- what the comparison tells of the records i and j
 looked : (c : tie.After-same-parts Inv-loop μ-loop)
-    → c .same-parts .result ≡ samePath (c .before .before .before .before .before .before .before .before .args .t .now)
-    (c .before .before .before .before .before .before .before .before .args .i) (c .before .before .before .loop .j)
+    → c .same-parts .result ≡ samePath (c .before .before .before .before .before .before .before .before .before .args .t .now)
+    (c .before .before .before .before .before .before .before .before .before .args .i) (c .before .before .before .loop .j)
 looked c =
     let r = c .before .before .before .before in
-    let s = r .before .before .before .before in
+    let s = r .before .before .before .before .before in
     front-same _ _ _ _ _ _ _ (s .pre .0) (c .before .before .loop-test .taken) (s .pre .1)
-    (ap (λ (h : ℕ). h + 2) (r .before .before .hops-at .ensures)) (c .before .front-at2 .ensures) (r .before .front-at .ensures)
+    (ap (λ (h : ℕ). h + 2) (hops-read (r .before .before))) (c .before .front-at2 .ensures) (r .before .front-at .ensures)
     (c .same-parts .ensures)
 
 returns : tie.Need-returns Inv-loop μ-loop
@@ -88,5 +105,5 @@ returns-2 c = path-end _ _ (c .before .loop .j) (c .before .loop .inv .1) (c .be
 pub path-bad-spec : {M : Type 1} → statement M
 path-bad-spec =
     tie.close
-    (tie.spec Inv-loop μ-loop hops-at-requires cast-count add-count front-at-requires add-j rank-at-requires cast-j sub-j
+    (tie.spec Inv-loop μ-loop alone-requires hops-at-requires cast-count add-count front-at-requires add-j rank-at-requires cast-j sub-j
     loop-holds front-at-requires-2 same-parts-requires returns add-j-2 loop-less loop-again returns-2)
