@@ -31,7 +31,7 @@ unfolding records
 part-result-end c = omega arith
 
 returns : tie.Need-returns
-returns c = front-part _ _ _ _ _ (c .before .pre .1) refl refl
+returns c = front-part _ _ _ _ _ (c .before .pre .1) (omega arith) refl
 
 pub front-at-spec : {M : Type 1} → statement M
 front-at-spec =
