@@ -1,14 +1,14 @@
 -- `parts::has_twice` meets its contract: the marks are those of the numbers before i, none of which stands twice.
 -- Assumes nothing.
-use mathlib.Core.Path.{_≡_, refl, sym, ap, _∙_}
+use mathlib.Core.Path.{_≡_, refl, sym, _∙_}
 use mathlib.Core.Bool.{false}
-use Prim.Native.Nat.{ℕ, _≤_, _<_, _-_}
+use Prim.Native.Nat.{_≤_, _-_}
 use native.Mathlib.Omega.{arith}
-use lib.ListN.{length, take, getD}
+use lib.ListN.{length, take}
 use Rattle.lists.specs.Search.{elem, twice}
 use Rattle.lists.specs.Fill.{tabulate}
 use Rattle.lists.specs.ListLaws.{met-again, met-new, met-all}
-use Rattle.lists.specs.FillLaws.{tabulate-length, met-none, met-mark, met-look}
+use Rattle.lists.specs.FillLaws.{met-none, met-mark, met-look}
 use Rattle.parts.proofs.has_twice.Statement.{statement}
 use Rattle.parts.proofs.has_twice.Tie as tie
 
