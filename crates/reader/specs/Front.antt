@@ -1,6 +1,6 @@
 -- A record as a table of its own, and its bytes behind the rank: hops and path stand side by side, so two paths are the same where
 -- these bytes are.
-use mathlib.Core.Path.{_≡_, refl, sym, ap, _∙_}
+use mathlib.Core.Path.{_≡_, sym, ap, _∙_}
 use mathlib.Core.Bool.{Bool}
 use mathlib.Core.List.{List, _∷_}
 use Prim.Native.Nat.{ℕ, suc, _+_, _-_, _*_, _<_, _≤_}
