@@ -1,7 +1,7 @@
 -- Laws of lists made from the front: lengths, elements, parts and blocks, what a store changes, padding, and marks.
 use mathlib.Core.Path.{_≡_, refl, sym, ap, _∙_}
 use mathlib.Core.Logic.{_≢_}
-use mathlib.Core.Bool.{Bool, true, _||_, or-true, or-false, or-assoc}
+use mathlib.Core.Bool.{Bool, true, false, _||_, or-true, or-false, or-assoc}
 use mathlib.Core.List.{List, [], _∷_, _++_, append-assoc, append-nil}
 use Prim.Native.Nat.{ℕ, zero, suc, _+_, _-_, _*_, _<_, _≤_, min}
 use native.Mathlib.Omega.{arith}
@@ -14,7 +14,7 @@ use borrow.Author.Tests.{eq-eqb, ne-eqb}
 use Rattle.lists.specs.Search.{elem}
 use Rattle.lists.specs.Fill.{tabulate, blocks, padded, marked}
 use Rattle.lists.specs.Tests.{by-equal}
-use Rattle.lists.specs.ListLaws.{elem-cons, elem-nil, elem-at, elem-place}
+use Rattle.lists.specs.ListLaws.{elem-cons, elem-nil, elem-at, elem-place, met-more}
 
 module _ {A : Type 0} (f : ℕ → A) where
   pub tabulate-none : tabulate f 0 ≡ []
@@ -246,3 +246,20 @@ padded-append {A} x n a b m e =
     (λ i h. let z : m ≡ length a = omega arith in sym (rw z (getD-append-add a b i x))) in
     rw (padded-tabulate x n a, padded-tabulate x (n - m) b, tabulate-take (λ i. getD a i x) n m (omega arith), front, behind)
     (sym (padded-tabulate x n (a ++ b) ∙ tabulate-split f n m (omega arith)))
+
+-- the marks of the numbers that a walk has met before it comes to i
+
+module _ (p : List ℕ) (n : ℕ) where
+  -- the number v is met before i
+  abbrev met : ℕ → ℕ → Bool
+  met i v = elem v (take i p)
+
+  pub met-none : replicate n false ≡ tabulate (met 0) n
+  met-none = is-tabulate (met 0) false n (replicate n false) (length-replicate n false) (λ v h. alike-at n v false ∙ sym (elem-nil v))
+
+  module _ (i : ℕ) (marks : List Bool) where
+    pub met-look : (v : ℕ) (d : Bool) → marks ≡ tabulate (met i) n → v < n → getD marks v d ≡ elem v (take i p)
+    met-look v d e h = rw e (tabulate-at (met i) n v d h)
+
+    pub met-mark : marks ≡ tabulate (met i) n → i < length p → set marks (getD p i 0) true ≡ tabulate (met (i + 1)) n
+    met-mark e h = rw e (mark-one (met i) (met (i + 1)) n (getD p i 0) (λ v l. met-more p i v h))

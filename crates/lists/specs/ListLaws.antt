@@ -1,20 +1,19 @@
 -- Laws of the elements of a list: whether any passes, the first that does, which numbers stand in it, which twice, and what same lists are.
 use mathlib.Core.Path.{_≡_, refl, sym, ap, _∙_}
 use mathlib.Core.Logic.{⊎-elim}
-use mathlib.Core.Bool.{Bool, true, false, _||_, or-assoc}
+use mathlib.Core.Bool.{Bool, true, false, _||_, or-assoc, or-false}
 use mathlib.Core.List.{List, [], _∷_, _++_}
 use mathlib.Core.Option.{none, some}
-use Prim.Native.Nat.{ℕ, zero, suc, _+_, _-_, _<_, _≤_}
+use Prim.Native.Nat.{ℕ, zero, suc, _+_, _<_, _≤_}
 use native.Mathlib.Omega.{arith}
 use native.Mathlib.Nat.{not-suc-le-zero}
 use native.Mathlib.Numerals.{add-one}
-use lib.ListN.{length, getD, take, drop, drop-of-length-le}
-use lib.Seq.{drop-cons}
+use lib.ListN.{length, getD, take, drop, drop-of-length-le, length-take}
+use lib.Seq.{drop-cons, take-suc, take-all, getD-take}
 use lib.Dec.{eqb}
-use borrow.Author.Tests.{eqb-true, eq-eqb, ne-eqb}
+use borrow.Author.Tests.{eqb-true, eqb-false, eq-eqb, ne-eqb}
 use Rattle.lists.specs.Search.{anyIn, firstIn, elem, same, twice}
-use Rattle.lists.specs.Tests.{true≢, none≢some, by-test, by-equal, or-none, or-cases, or-left, or-right}
-use Rattle.lists.specs.Parts.{part-to-end}
+use Rattle.lists.specs.Tests.{true≢, none≢some, by-test, by-equal, or-none, or-cases, or-left, or-right, neither}
 
 -- within a list it does not matter what stands past its end
 pub getD-within : {A : Type 0} (l : List A) (i : ℕ) (d e : A) → i < length l → getD l i d ≡ getD l i e
@@ -136,11 +135,11 @@ unfolding same
 same-refl [] = refl
 same-refl (x ∷ xs) = rw (eq-eqb x x refl, same) (same-refl xs)
 
-same-cons : (x y : ℕ) (xs ys : List ℕ) → x ≡ y → same (x ∷ xs) (y ∷ ys) ≡ same xs ys
+pub same-cons : (x y : ℕ) (xs ys : List ℕ) → x ≡ y → same (x ∷ xs) (y ∷ ys) ≡ same xs ys
 unfolding same
 same-cons x y xs ys e = rw (eq-eqb x y e, same)
 
-same-heads : (x y : ℕ) (xs ys : List ℕ) → (x ≡ y → ⊥) → same (x ∷ xs) (y ∷ ys) ≡ false
+pub same-heads : (x y : ℕ) (xs ys : List ℕ) → (x ≡ y → ⊥) → same (x ∷ xs) (y ∷ ys) ≡ false
 unfolding same
 same-heads x y xs ys f = rw (ne-eqb x y f, same)
 
@@ -197,32 +196,42 @@ apart-twice (x ∷ l) h =
     (λ q. let r = elem-place x l q in absurd (h 0 (suc (r .0)) (omega arith) (omega (arith, r .1)) (sym (r .2))))
     (λ q. rw q (apart-twice l (λ i j a b. h (suc i) (suc j) (omega arith) (omega arith))))
 
--- in a scan that has come to i, b says whether the number there stands again in the part behind it
-
-twice-drop : (p : List ℕ) (i : ℕ)
-    → i < length p
-    → twice (drop i p) ≡ elem (getD p i 0) (drop (suc i) p) || twice (drop (suc i) p)
-unfolding twice
-twice-drop p i h = rw (drop-cons p i 0 h)
-
-module _ (p : List ℕ) (i : ℕ) (come : twice (drop i p) ≡ twice p) where
-  module _ (h : i < length p) (b : Bool) (look : b ≡ elem (getD p i 0) (take (length p - (i + 1)) (drop (i + 1) p))) where
-    seen-later : elem (getD p i 0) (drop (suc i) p) ≡ b
-    seen-later = rw (← add-one, ← part-to-end) (sym look)
-
-    pub twice-hit : b ≡ true → true ≡ twice p
-    twice-hit e =
-        sym (or-left (elem (getD p i 0) (drop (suc i) p)) (twice (drop (suc i) p)) (seen-later ∙ e)) ∙ sym (twice-drop p i h) ∙ come
-
-    pub twice-next : b ≡ false → twice (drop (i + 1) p) ≡ twice p
-    twice-next e = rw add-one (sym (twice-drop p i h ∙ rw (seen-later ∙ e)) ∙ come)
-
-  pub twice-end : length p ≤ i → false ≡ twice p
-  unfolding twice
-  twice-end h = rw (drop-of-length-le p h) at come
-
 -- a place that is there has the same element, whatever stands for what is past the end
 pub at-place : {A : Type 0} (l : List A) (k : ℕ) (d e : A) → k < length l → getD l k d ≡ getD l k e
 at-place [] k d e h = absurd (not-suc-le-zero h)
 at-place (x ∷ xs) zero d e h = refl
 at-place (x ∷ xs) (suc k) d e h = at-place xs k d e (omega arith)
+
+-- one number more at the end of a list
+
+pub elem-more : (v : ℕ) (l : List ℕ) (x : ℕ) → elem v (l ++ x ∷ []) ≡ elem v l || eqb v x
+unfolding elem
+elem-more v l x = any-append (eqb v) l (x ∷ []) ∙ rw (any-cons (eqb v) x [], any-nil (eqb v), or-false)
+
+once-more : (l : List ℕ) (x : ℕ) → twice l ≡ false → elem x l ≡ false → twice (l ++ x ∷ []) ≡ false
+unfolding twice
+once-more [] x t e = neither (elem x []) false e refl
+once-more (y ∷ l) x t e =
+    let s = or-none (elem y l) (twice l) t in
+    let f = or-none (eqb x y) (elem x l) (sym (elem-cons x y l) ∙ e) in
+    neither (elem y (l ++ x ∷ [])) (twice (l ++ x ∷ []))
+    (elem-more y l x ∙ neither (elem y l) (eqb y x) (s .0) (ne-eqb y x (λ q. eqb-false x y (f .0) (sym q)))) (once-more l x (s .1) (f .1))
+
+-- a walk that has come to i meets a number that it met before, or one that is new
+
+module _ (p : List ℕ) (i : ℕ) where
+  pub met-more : (v : ℕ) → i < length p → elem v (take (i + 1) p) ≡ elem v (take i p) || eqb v (getD p i 0)
+  met-more v h = rw (add-one, take-suc p i 0 h) (elem-more v (take i p) (getD p i 0))
+
+  pub met-again : i < length p → elem (getD p i 0) (take i p) ≡ true → true ≡ twice p
+  met-again h e =
+      let r = elem-place (getD p i 0) (take i p) e in
+      let k : r .0 < i = omega (arith, r .1, length-take i p) in
+      by-test (twice p) sym
+      (λ q. absurd (twice-apart p q (r .0) i k h (sym (getD-take i p (r .0) 0 k) ∙ r .2)))
+
+  pub met-new : i < length p → twice (take i p) ≡ false → elem (getD p i 0) (take i p) ≡ false → twice (take (i + 1) p) ≡ false
+  met-new h t e = rw (add-one, take-suc p i 0 h) (once-more (take i p) (getD p i 0) t e)
+
+  pub met-all : length p ≤ i → twice (take i p) ≡ false → false ≡ twice p
+  met-all h t = sym (rw (take-all i p h) at t)

@@ -54,17 +54,19 @@ pub fn occurs(v: u8, part: &[u8]) -> bool
     false
 }
 
-// Whether some vertex stands twice in the part.
+// Whether some vertex stands twice in the part: each is looked up among the marks of those before it.
 pub fn has_twice(part: &[u8]) -> bool
     ensures { λ r. ⌜ r ≡ twice (now (part .entry)) ⌝ }
 {
+    let mut seen = [false; 256];
     let mut i = 0;
     while i < part.len() {
-        let next = i + 1;
-        if occurs(part[i], &part[next..]) {
+        let v = part[i] as usize;
+        if seen[v] {
             return true;
         }
-        i = next;
+        seen[v] = true;
+        i += 1;
     }
     false
 }

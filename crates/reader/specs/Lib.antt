@@ -1,3 +1,4 @@
--- The answer of the reader.
+-- The answer of the reader, and how it compares paths.
 pub mod Reading
 pub mod ReadingLaws
+pub mod Front

@@ -4,6 +4,7 @@ ghost use Prim.Native.Nat.{_+_, _≤_, _<_};
 ghost use Rattle.rules.specs.Table.{records, recordAt, hopsAt};
 ghost use Rattle.rules.specs.Refusals.{hopsBad, vertexBad, fillerBad, twiceBad, lastBad, ownerBad, rankDue, rankBad, pathBad, fault};
 ghost use Rattle.rules.specs.TableLaws.{Orderly};
+ghost use Rattle.reader.specs.Front.{front};
 use parts::any_outside;
 use parts::byte_at;
 use parts::has_twice;
@@ -91,15 +92,37 @@ pub(crate) fn rank_bad(t: &[u8], i: usize) -> bool
     rank as u16 != rank_due(t, i)
 }
 
+// Record i as a table of its own: its 16 bytes are known to be there, so that the compiler drops the tests for each field.
+fn alone(t: &[u8], i: usize) -> &[u8]
+    requires { ⌜ i < records (now t) ⌝ }
+    ensures { λ r. ⌜ now r ≡ recordAt (now (t .entry)) i ⌝ }
+{
+    let at = i * 16;
+    let end = at + 16;
+    &t[at..end]
+}
+
+// The first bytes of record i behind its rank: hops and path, where there are hops + 2 of them.
+fn front_at(t: &[u8], i: usize, count: usize) -> &[u8]
+    requires { ⌜ (i < records (now t)) × (count ≤ 15) ⌝ }
+    ensures { λ r. ⌜ now r ≡ front (now (t .entry)) i count ⌝ }
+{
+    let at = i * 16 + 1;
+    let end = at + count;
+    &t[at..end]
+}
+
 // Refusal 11: only the records of this owner's block can have the same path, and the rank tells where it starts.
 pub(crate) fn path_bad(t: &[u8], i: usize) -> bool
-    requires { ⌜ (i < records (now t)) × Orderly (now t) (i + 1) ⌝ }
+    requires { ⌜ (i < records (now t)) × (hopsAt (now t) i ≤ 12) × Orderly (now t) (i + 1) ⌝ }
     ensures { λ r. ⌜ r ≡ pathBad (now (t .entry)) i ⌝ }
 {
-    let path = path_at(t, i);
-    let mut j = i + 1 - rank_at(t, i) as usize;
+    let r = alone(t, i);
+    let count = hops_at(r, 0) as usize + 2;
+    let path = front_at(t, i, count);
+    let mut j = i + 1 - rank_at(r, 0) as usize;
     while j < i {
-        if same_parts(path_at(t, j), path) {
+        if same_parts(front_at(t, j, count), path) {
             return true;
         }
         j += 1;
@@ -112,19 +135,20 @@ pub(crate) fn fault_of(t: &[u8], i: usize) -> u8
     requires { ⌜ (i < records (now t)) × Orderly (now t) i ⌝ }
     ensures { λ r. ⌜ r ≡ fault (now (t .entry)) i ⌝ }
 {
-    if hops_bad(t, i) {
+    let r = alone(t, i);
+    if hops_bad(r, 0) {
         return 4;
     }
-    if vertex_bad(t, i) {
+    if vertex_bad(r, 0) {
         return 5;
     }
-    if filler_bad(t, i) {
+    if filler_bad(r, 0) {
         return 6;
     }
-    if twice_bad(t, i) {
+    if twice_bad(r, 0) {
         return 7;
     }
-    if last_bad(t, i) {
+    if last_bad(r, 0) {
         return 8;
     }
     if owner_bad(t, i) {

@@ -1,24 +1,48 @@
 -- `reader::faults::path_bad` meets its contract: the block of the owner begins where its rank says, and no record before it has the path.
 -- Assumes nothing.
-use mathlib.Core.Path.{_≡_}
+use mathlib.Core.Path.{_≡_, refl, ap, _∙_}
 use mathlib.Core.Bool.{false}
-use Prim.Native.Nat.{_≤_, _-_}
+use Prim.Native.Nat.{ℕ, _+_, _≤_, _-_}
 use native.Mathlib.Omega.{arith}
 use borrow.Author.Needs.{needs}
 use Rattle.lists.specs.Search.{anyBelow}
-use Rattle.rules.specs.Table.{records, pathAt}
+use Rattle.rules.specs.Table.{records, hopsOf, rankOf, hopsAt, rankAt}
 use Rattle.rules.specs.TableLaws.{samePath, block-fits, block-start, path-hit, path-next, path-end}
+use Rattle.reader.specs.Front.{alone-record, front-same}
 use Rattle.reader.proofs.faults.path_bad.Statement.{statement}
 use Rattle.reader.proofs.faults.path_bad.Tie as tie
 
 abbrev Inv-loop : tie.InvT-loop
-Inv-loop t i path j₀ j = (j ≤ i) × (path ≡ pathAt t i) × (anyBelow (samePath t i) j ≡ false)
+Inv-loop t i count path j₀ j = (j ≤ i) × (anyBelow (samePath t i) j ≡ false)
 
 abbrev μ-loop : tie.MeasureT-loop
-μ-loop t i path j₀ j = i - j
+μ-loop t i count path j₀ j = i - j
 
-path-at-requires : tie.Need-path-at-requires Inv-loop μ-loop
-path-at-requires c κs = search needs
+-- hops and rank are those of record i
+
+hops-read : (c : tie.After-hops-at Inv-loop μ-loop)
+    → c .hops-at .result ≡ hopsAt (c .before .before .before .args .t .now) (c .before .before .before .args .i)
+hops-read c = c .hops-at .ensures ∙ ap hopsOf (alone-record _ _ _ (c .before .alone .ensures))
+
+rank-read : (c : tie.After-rank-at Inv-loop μ-loop)
+    → c .rank-at .result
+    ≡ rankAt (c .before .before .before .before .before .args .t .now) (c .before .before .before .before .before .args .i)
+rank-read c = c .rank-at .ensures ∙ ap rankOf (alone-record _ _ _ (c .before .before .before .alone .ensures))
+
+alone-requires : tie.Need-alone-requires Inv-loop μ-loop
+alone-requires c κs = c .before .pre .0
+
+hops-at-requires : tie.Need-hops-at-requires Inv-loop μ-loop
+hops-at-requires c κs = search needs
+
+cast-count : tie.Need-cast-count Inv-loop μ-loop
+cast-count c = omega arith
+
+add-count : tie.Need-add-count Inv-loop μ-loop
+add-count c = omega arith
+
+front-at-requires : tie.Need-front-at-requires Inv-loop μ-loop
+front-at-requires c κs = (c .before .before .before .pre .0, omega (arith, hops-read c, c .before .before .before .pre .1))
 
 add-j : tie.Need-add-j Inv-loop μ-loop
 unfolding records
@@ -31,25 +55,38 @@ cast-j : tie.Need-cast-j Inv-loop μ-loop
 cast-j c = omega arith
 
 sub-j : tie.Need-sub-j Inv-loop μ-loop
-sub-j c = omega (arith, block-fits _ _ (c .before .before .before .pre .1) _ (c .rank-at .ensures) .1)
+sub-j c = omega (arith, block-fits _ _ (c .before .before .before .before .before .pre .2) _ (rank-read c) .1)
 
 loop-holds : tie.Need-loop-holds Inv-loop μ-loop
 loop-holds c =
-    let o = c .before .before .before .pre .1 in
-    let f = block-fits _ _ o _ (c .rank-at .ensures) in
-    (omega arith, c .before .path-at .ensures, block-start _ _ o _ (c .rank-at .ensures))
+    let o = c .before .before .before .before .before .pre .2 in
+    let f = block-fits _ _ o _ (rank-read c) in
+    (omega arith, block-start _ _ o _ (rank-read c))
 
-path-at-requires-2 : tie.Need-path-at-requires-2 Inv-loop μ-loop
-path-at-requires-2 c κs = search needs
+front-at-requires-2 : tie.Need-front-at-requires-2 Inv-loop μ-loop
+front-at-requires-2 c κs =
+    let r = c .before .before .before .before in
+    let s = r .before .before .before in
+    (omega (arith, s .pre .0), omega (arith, s .pre .1, hops-read r))
 
 same-parts-requires : tie.Need-same-parts-requires Inv-loop μ-loop
 same-parts-requires c κs = search needs
 
+-- what the comparison tells of the records i and j
+looked : (c : tie.After-same-parts Inv-loop μ-loop)
+    → c .same-parts .result ≡ samePath (c .before .before .before .before .before .before .before .before .before .args .t .now)
+    (c .before .before .before .before .before .before .before .before .before .args .i) (c .before .before .before .loop .j)
+looked c =
+    let r = c .before .before .before .before in
+    let s = r .before .before .before .before .before in
+    front-same _ _ _ _ _ _ _ (s .pre .0) (c .before .before .loop-test .taken) (s .pre .1)
+    (ap (λ (h : ℕ). h + 2) (hops-read (r .before .before))) (c .before .front-at2 .ensures) (r .before .front-at .ensures)
+    (c .same-parts .ensures)
+
 returns : tie.Need-returns Inv-loop μ-loop
 returns c =
     let a = c .before .before .before .before in
-    path-hit _ _ _ (a .loop .inv .2) _ _ _ (c .before .before .path-at2 .ensures) (a .loop .inv .1)
-    (c .before .same-parts .ensures) (c .before .before .before .loop-test .taken) (c .if1 .taken)
+    path-hit _ _ _ (a .loop .inv .1) _ _ _ refl refl (looked (c .before)) (c .before .before .before .loop-test .taken) (c .if1 .taken)
 
 add-j-2 : tie.Need-add-j-2 Inv-loop μ-loop
 add-j-2 c = omega arith
@@ -59,18 +96,14 @@ loop-less c = omega arith
 
 loop-again : tie.Need-loop-again Inv-loop μ-loop
 loop-again c =
-    let a = c .before .before .before .before in (
-      omega arith,
-      a .loop .inv .1,
-      path-next _ _ _ (a .loop .inv .2) _ _ _ (c .before .before .path-at2 .ensures)
-          (a .loop .inv .1) (c .before .same-parts .ensures) (c .if1 .left),
-    )
+    let a = c .before .before .before .before in
+    (omega arith, path-next _ _ _ (a .loop .inv .1) _ _ _ refl refl (looked (c .before)) (c .if1 .left))
 
 returns-2 : tie.Need-returns-2 Inv-loop μ-loop
-returns-2 c = path-end _ _ (c .before .loop .j) (c .before .loop .inv .2) (c .before .loop .inv .0) (c .loop-test .left)
+returns-2 c = path-end _ _ (c .before .loop .j) (c .before .loop .inv .1) (c .before .loop .inv .0) (c .loop-test .left)
 
 pub path-bad-spec : {M : Type 1} → statement M
 path-bad-spec =
     tie.close
-    (tie.spec Inv-loop μ-loop path-at-requires add-j rank-at-requires cast-j sub-j loop-holds path-at-requires-2
-    same-parts-requires returns add-j-2 loop-less loop-again returns-2)
+    (tie.spec Inv-loop μ-loop alone-requires hops-at-requires cast-count add-count front-at-requires add-j rank-at-requires cast-j sub-j
+    loop-holds front-at-requires-2 same-parts-requires returns add-j-2 loop-less loop-again returns-2)
