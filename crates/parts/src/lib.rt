@@ -3,7 +3,7 @@ ghost use mathlib.Core.Path.{_≡_};
 ghost use mathlib.Core.Bool.{true};
 ghost use Prim.Native.Nat.{min, max};
 ghost use lib.ListN.{getD, length, set};
-ghost use Rattle.lists.specs.Search.{anyIn, elem, outside, same, twice};
+ghost use Rattle.lists.specs.Search.{anyIn, outside, same, twice};
 ghost use Rattle.lists.specs.Fill.{marked, padded};
 
 // The byte at k, 0 past the end.
@@ -33,20 +33,6 @@ pub fn any_outside(low: u8, high: u8, part: &[u8]) -> bool
     let mut i = 0;
     while i < part.len() {
         if is_outside(low, high, part[i]) {
-            return true;
-        }
-        i += 1;
-    }
-    false
-}
-
-// Whether v stands in the part.
-pub fn occurs(v: u8, part: &[u8]) -> bool
-    ensures { λ r. ⌜ r ≡ elem v (now (part .entry)) ⌝ }
-{
-    let mut i = 0;
-    while i < part.len() {
-        if part[i] == v {
             return true;
         }
         i += 1;
