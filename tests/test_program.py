@@ -3,6 +3,7 @@
 Only standard output is fixed, and it holds nothing but the check's text.
 """
 
+import os
 import random
 import subprocess
 import time
@@ -82,6 +83,16 @@ class Lengths(unittest.TestCase):
             time.sleep(0.02)
         text = program.communicate()[0].decode()
         self.assertEqual((program.returncode, text), check(self.full))
+
+    def test_an_input_that_cannot_be_read(self):
+        """A folder opens and cannot be read: nothing that looks like a check may be printed."""
+        folder = os.open(ROOT / "samples", os.O_RDONLY)
+        try:
+            done = subprocess.run([FRONT, "check"], stdin=folder, capture_output=True)
+        finally:
+            os.close(folder)
+        self.assertEqual(done.stdout, b"")
+        self.assertIn(b"cannot be read", done.stderr)
 
 
 class Seeded(unittest.TestCase):
