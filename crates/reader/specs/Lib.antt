@@ -2,3 +2,4 @@
 pub mod Reading
 pub mod ReadingLaws
 pub mod Front
+pub mod FrontLaws

@@ -4,7 +4,7 @@ use mathlib.Core.Path.{refl}
 use native.Mathlib.Omega.{arith}
 use borrow.Author.Needs.{needs}
 use Rattle.rules.specs.Table.{records}
-use Rattle.reader.specs.Front.{front-part}
+use Rattle.reader.specs.FrontLaws.{front-part}
 use Rattle.reader.proofs.faults.front_at.Statement.{statement}
 use Rattle.reader.proofs.faults.front_at.Tie as tie
 
