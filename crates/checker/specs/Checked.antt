@@ -1,18 +1,17 @@
 -- What the check's answer and buffers are, refused or accepted, and that the contract allows one result for each input.
 use mathlib.Core.Path.{_≡_, refl, sym, ap, _∙_}
-use mathlib.Core.Bool.{Bool, true, false}
+use mathlib.Core.Bool.{Bool}
 use mathlib.Core.List.{List}
 use mathlib.Core.Option.{Option, none, some}
 use Prim.Native.Nat.{ℕ, suc, zero}
-use native.Mathlib.Omega.{arith}
 use lib.ListN.{length}
-use Rattle.lists.specs.Tests.{by-less, or-left, or-right, neither, is-inside, below-out, above-out}
 use Rattle.lists.specs.Fill.{padded, tabulate}
 use Rattle.rules.specs.Table.{longest}
-use Rattle.rules.specs.Refusals.{Refusal, refusal, refusedIf, _orElse_}
+use Rattle.rules.specs.Refusals.{Refusal, refusal}
 use Rattle.rules.specs.Report.{report}
-use Rattle.rules.specs.Answers.{otherLength, checkRefusal, unless, verdict, verdictOf, checkVerdict, checkNumbers, rowsAfter, ringAfter}
+use Rattle.rules.specs.Answers.{checkRefusal, unless, verdict, verdictOf, checkVerdict, checkNumbers, rowsAfter, ringAfter}
 use Rattle.reader.specs.Reading.{readingOf}
+use Rattle.reader.specs.ReadingLaws.{reading-tells}
 use Rattle.reader.specs.declared.Reading.the-variants.{Accepted, Refused}
 use Rattle.answer.specs.declared.Answer.{Answer}
 use Rattle.answer.specs.declared.Verdict.{Verdict}
@@ -43,33 +42,9 @@ one-check table rows ring a b r s p q x y = (
   x .1 .1 .1 ∙ sym (y .1 .1 .1),
 )
 
--- the refusal of each way through the check
-
-other-length : {A : Type 0} (n : ℕ) (l : List A) → (length l ≡ n → ⊥) → otherLength n l ≡ true
-unfolding otherLength
-other-length n l f = by-less (length l) n (below-out n n (length l)) (λ h. above-out n n (length l) (omega arith))
-
-same-length : {A : Type 0} (n : ℕ) (l : List A) → length l ≡ n → otherLength n l ≡ false
-unfolding otherLength
-same-length n l e = is-inside n n (length l) (omega arith) (omega arith)
-
-abbrev one : Option Refusal
-one = some (record { number = 1; place = 0 })
+-- each way through the check
 
 module _ (table rows ring : List ℕ) where
-  pub refused-rows : (length rows ≡ 1024 → ⊥) → checkRefusal table rows ring ≡ one
-  unfolding checkRefusal refusedIf _orElse_
-  refused-rows f = rw (or-left (otherLength 1024 rows) (otherLength 64 ring) (other-length 1024 rows f), checkRefusal)
-
-  pub refused-ring : (length ring ≡ 64 → ⊥) → checkRefusal table rows ring ≡ one
-  unfolding checkRefusal refusedIf _orElse_
-  refused-ring f = rw (or-right (otherLength 1024 rows) (otherLength 64 ring) (other-length 64 ring f), checkRefusal)
-
-  pub refused-table : length rows ≡ 1024 → length ring ≡ 64 → checkRefusal table rows ring ≡ refusal table
-  unfolding checkRefusal refusedIf _orElse_
-  refused-table d e =
-      rw (neither (otherLength 1024 rows) (otherLength 64 ring) (same-length 1024 rows d) (same-length 64 ring e), checkRefusal)
-
   -- a refused call
   abbrev pub refusal-answer : ℕ → ℕ → Answer
   refusal-answer n k = record { verdict = told.Refused n k; settled = 0; stuck = 0; stages = 0; longest = 0 }
@@ -95,16 +70,11 @@ module _ (table rows ring : List ℕ) where
 -- what the reader's answer says
 pub reading-accepted : (o : Option Refusal) → Accepted ≡ readingOf o → o ≡ none
 unfolding readingOf
-reading-accepted none e = refl
-reading-accepted (some r) e = absurd (let z : _≡_ {A = ℕ} 0 1 = cc in omega arith)
+reading-accepted o e = sym (reading-tells none o e)
 
 pub reading-refused : (n k : ℕ) (o : Option Refusal) → Refused n k ≡ readingOf o → o ≡ some (record { number = n; place = k })
 unfolding readingOf
-reading-refused n k none e = absurd (let z : _≡_ {A = ℕ} 0 1 = cc in omega arith)
-reading-refused n k (some r) e =
-    let a : n ≡ r .number = cc in
-    let b : k ≡ r .place = cc in
-    λ i. some (record { number = sym a i; place = sym b i })
+reading-refused n k o e = sym (reading-tells (some (record { number = n; place = k })) o e)
 
 -- the verdict of a ring's length
 pub verdict-none : (n : ℕ) → n ≡ 0 → (meaning told.Complete ≡ verdictOf n) × (ringLengthIn told.Complete ≡ n)

@@ -1,16 +1,22 @@
 -- What the mark of a vertex says after k stages.
-use mathlib.Core.Path.{_≡_, sym, _∙_}
+use mathlib.Core.Path.{_≡_, sym, ap, _∙_}
 use mathlib.Core.Bool.{true, false}
 use mathlib.Core.List.{List}
 use mathlib.Core.Option.{none, some}
-use Prim.Native.Nat.{ℕ, _-_, _≤_}
+use Prim.Native.Nat.{ℕ, _<_, _≤_}
 use native.Mathlib.Omega.{arith}
+use lib.ListN.{getD}
 use Rattle.lists.specs.Tests.{by-test, by-option}
 use Rattle.rules.specs.Table.{Path, pathsOf, present}
 use Rattle.rules.specs.Greedy.{Settled, isSettled, settled, stageOf}
 use Rattle.lists.specs.Search.{firstFrom}
 use Rattle.lists.specs.SearchLaws.{first-found}
-use Rattle.checker.specs.Settling.{markAt}
+use Rattle.lists.specs.FillLaws.{tabulate-at}
+use Rattle.checker.specs.Settling.{markAt, Stands}
+
+-- after k stages the marks are these
+pub mark-here : {t : List ℕ} {k : ℕ} {marks shown : List ℕ} → Stands t k marks shown → (v d : ℕ) → v < 64 → getD marks v d ≡ markAt t k v
+mark-here {t} {k} st v d h = ap (λ (l : List ℕ). getD l v d) (st .marked) ∙ tabulate-at (markAt t k) 64 v d h
 
 -- what a mark says
 

@@ -1,7 +1,7 @@
 -- Where the stages have ended, marks and records tell the report of the rules.
 use mathlib.Core.Path.{_≡_, sym, ap, _∙_, fun-ext}
 use mathlib.Core.Logic.{_≢_, inl, inr}
-use mathlib.Core.Bool.{Bool, true, false, not, _&&_}
+use mathlib.Core.Bool.{Bool, true, false, not, _&&_, and-false}
 use mathlib.Core.List.{List, [], _∷_}
 use mathlib.Core.Option.{none, some}
 use Prim.Native.Nat.{ℕ, _<_, _≤_}
@@ -28,9 +28,9 @@ use Rattle.judge.specs.Standing.{isJudged}
 use Rattle.judge.specs.StandingLaws.{holds-record, settled-holds}
 use Rattle.ring.specs.Ring.{ringIn}
 use Rattle.ring.specs.RingLaws.{ring-agrees}
-use Rattle.checker.specs.Settling.{markAt, Own, Ended}
+use Rattle.checker.specs.Settling.{Own, Ended}
 use Rattle.checker.specs.BestLaws.{few-records, no-path}
-use Rattle.checker.specs.MarkLaws.{mark-absent, mark-waits, mark-settled, stage-small}
+use Rattle.checker.specs.MarkLaws.{mark-here, mark-absent, mark-waits, mark-settled, stage-small}
 use Rattle.checker.specs.StartLaws.{stage-origin}
 use Rattle.checker.specs.Rows.{shownRow, isBetween, countBetween}
 
@@ -66,9 +66,6 @@ module _ (t : List ℕ) (e : refusal t ≡ none) (marks shown : List ℕ) (stage
 
   abbrev S : Settled
   S = final (pathsOf t) (present t)
-
-  mark-here : (v f : ℕ) → v < 64 → getD marks v f ≡ markAt t last v
-  mark-here v f h = ap (λ (l : List ℕ). getD l v f) (d .stands .marked) ∙ tabulate-at (markAt t last) 64 v f h
 
   -- the path of a settled vertex but 0 is that of its record
   settled-shows : (v : ℕ) (p : Path) → v ≢ 0 → S v ≡ some p → pathAt t (getD shown v 65535) ≡ p
@@ -116,9 +113,9 @@ module _ (t : List ℕ) (e : refusal t ≡ none) (marks shown : List ℕ) (stage
       by-equal v 0 (λ q. rw q shown-zero)
       (λ f. shown-other v f ∙ by-test (present t v)
       (λ a. by-option (S v)
-      (λ q. record-row v 255 _ (mark-here v 254 h ∙ mark-waits t last v a q) (d .waits .shows v a q) ∙ sym (row-stuck v a q))
-      (λ p q. record-row v _ p (mark-here v 254 h ∙ mark-settled t last v p a q) (settled-shows v p f q) ∙ sym (row-settled v p a q)))
-      (λ a. record-row v 254 [] (mark-here v 254 h ∙ mark-absent t last v a)
+      (λ q. record-row v 255 _ (mark-here (d .stands) v 254 h ∙ mark-waits t last v a q) (d .waits .shows v a q) ∙ sym (row-stuck v a q))
+      (λ p q. record-row v _ p (mark-here (d .stands) v 254 h ∙ mark-settled t last v p a q) (settled-shows v p f q) ∙ sym (row-settled v p a q)))
+      (λ a. record-row v 254 [] (mark-here (d .stands) v 254 h ∙ mark-absent t last v a)
       (ap (pathAt t) (absent-none t e v (getD shown v 65535) a (d .stands .own v)) ∙ no-path t e)
       ∙ ap (λ (r : ℕ). rowBytes 254 r []) (none-placed t e v) ∙ sym (row-absent v a)))
 
@@ -136,10 +133,10 @@ module _ (t : List ℕ) (e : refusal t ≡ none) (marks shown : List ℕ) (stage
   mark v h =
       by-option (S v)
       (λ q. by-test (present t v)
-      (λ a. waiting a q (mark-here v 254 h ∙ mark-waits t last v a q))
-      (λ a. away a q (mark-here v 254 h ∙ mark-absent t last v a)))
+      (λ a. waiting a q (mark-here (d .stands) v 254 h ∙ mark-waits t last v a q))
+      (λ a. away a q (mark-here (d .stands) v 254 h ∙ mark-absent t last v a)))
       (λ p q. let a = settled-present (pathsOf t) (present t) (shaped t e .origin) last v p q in
-      done p a q (omega (arith, mark-here v 254 h, mark-settled t last v p a q, stage-small t v)))
+      done p a q (omega (arith, mark-here (d .stands) v 254 h, mark-settled t last v p a q, stage-small t v)))
 
   -- the stuck are those that would be judged once more
   judged-stuck : (v : ℕ) → v < 64 → isJudged marks v ≡ isStuck (pathsOf t) (present t) v
@@ -175,9 +172,6 @@ module _ (t : List ℕ) (e : refusal t ≡ none) (marks shown : List ℕ) (stage
           ap nextHop (sym (d .waits .shows v a (stuck-unsettled (pathsOf t) (present t) (shaped t e) v s)))
 
   -- the counts
-  never : (b : Bool) → b && false ≡ false
-  never b = by-test b (λ q. rw q) (λ q. rw q)
-
   pub settled-reported : countBetween 0 253 marks ≡ report t .settledCount
   unfolding report countBetween isBetween isSettled
   settled-reported =
@@ -194,8 +188,8 @@ module _ (t : List ℕ) (e : refusal t ≡ none) (marks shown : List ℕ) (stage
       count-ext (isBetween 255 255 marks) (isStuck (pathsOf t) (present t)) 64 (λ v h. go v (mark v h))
     where
       go : (v : ℕ) → Mark v → not (eqb v 0) && not (outside 255 255 (getD marks v 254)) ≡ isStuck (pathsOf t) (present t) v
-      go v (away a q m) = rw (below-out 255 255 (getD marks v 254) (omega arith), a) (never (not (eqb v 0)))
+      go v (away a q m) = rw (below-out 255 255 (getD marks v 254) (omega arith), a) (and-false (not (eqb v 0)))
       go v (waiting a q m) =
           rw (ne-eqb v 0 (λ z. none≢some (rw z at q) (settled-origin (pathsOf t) (present t) last)))
           (rw (is-inside 255 255 (getD marks v 254) (omega arith) (omega arith), a, q))
-      go v (done p a q m) = rw (below-out 255 255 (getD marks v 254) (omega arith), a, q) (never (not (eqb v 0)))
+      go v (done p a q m) = rw (below-out 255 255 (getD marks v 254) (omega arith), a, q) (and-false (not (eqb v 0)))

@@ -21,7 +21,7 @@ use Rattle.judge.specs.Standing.{isIn, heldPath, settledBy, bestRecord, entersW
 use Rattle.judge.specs.StandingLaws.{holds-record, holds-same, in-settled, out-unsettled, settled-holds}
 use Rattle.checker.specs.Settling.{markAt, Own, Stands, Waits}
 use Rattle.checker.specs.BestLaws.{enters-judged, best-found, best-own}
-use Rattle.checker.specs.MarkLaws.{mark-absent, mark-waits, mark-settled, mark-same, stage-small}
+use Rattle.checker.specs.MarkLaws.{mark-here, mark-absent, mark-waits, mark-settled, mark-same, stage-small}
 
 -- how a vertex comes through the stage after k
 
@@ -65,9 +65,6 @@ module _ (t : List ℕ) (e : refusal t ≡ none) (k : ℕ) (marks shown : List �
   abbrev chosen : ℕ → ℕ
   chosen v = bestRecord t marks shown (getD slots v [])
 
-  mark-here : (v d : ℕ) → v < 64 → getD marks v d ≡ markAt t k v
-  mark-here v d h = ap (λ (l : List ℕ). getD l v d) (st .marked) ∙ tabulate-at (markAt t k) 64 v d h
-
   chosen-path : (v : ℕ) → v < 64 → pathAt t (chosen v) ≡ best (pathsOf t) sofar v
   chosen-path v h = best-found t e marks shown slots s v h ∙ ap (λ (S : Settled). best (pathsOf t) S v) (st .held)
 
@@ -81,16 +78,16 @@ module _ (t : List ℕ) (e : refusal t ≡ none) (k : ℕ) (marks shown : List �
   module _ (v : ℕ) (h : v < 64) where
     is-judged : markAt t k v ≡ 255 → isJudged marks v ≡ true
     unfolding isJudged
-    is-judged m = eq-eqb (getD marks v 254) 255 (mark-here v 254 h ∙ m)
+    is-judged m = eq-eqb (getD marks v 254) 255 (mark-here st v 254 h ∙ m)
 
     not-judged : markAt t k v ≢ 255 → isJudged marks v ≡ false
     unfolding isJudged
-    not-judged m = ne-eqb (getD marks v 254) 255 (λ q. m (sym (mark-here v 254 h) ∙ q))
+    not-judged m = ne-eqb (getD marks v 254) 255 (λ q. m (sym (mark-here st v 254 h) ∙ q))
 
     -- what a vertex that is not judged keeps
     keeps-mark : isJudged marks v ≡ false → markAfter t slots marks shown (suc k) v ≡ markAt t k v
     unfolding markAfter
-    keeps-mark j = rw (j, markAfter) (mark-here v 254 h)
+    keeps-mark j = rw (j, markAfter) (mark-here st v 254 h)
 
     keeps-shown : isJudged marks v ≡ false → shownAfter t slots marks shown v ≡ getD shown v 65535
     unfolding shownAfter
@@ -103,7 +100,7 @@ module _ (t : List ℕ) (e : refusal t ≡ none) (k : ℕ) (marks shown : List �
 
     waits-mark : isJudged marks v ≡ true → entersWith t marks (chosen v) ≡ false → markAfter t slots marks shown (suc k) v ≡ markAt t k v
     unfolding markAfter
-    waits-mark j q = rw (j, gets-shown j, q, markAfter) (mark-here v 254 h)
+    waits-mark j q = rw (j, gets-shown j, q, markAfter) (mark-here st v 254 h)
 
     enters-mark : isJudged marks v ≡ true → entersWith t marks (chosen v) ≡ true → markAfter t slots marks shown (suc k) v ≡ suc k
     unfolding markAfter
@@ -235,7 +232,7 @@ module _ (t : List ℕ) (e : refusal t ≡ none) (k : ℕ) (marks shown : List �
         let a = settled-present (pathsOf t) (present t) (shaped t e .origin) (suc k) v (new .0) f in
         absurd (omega (
           arith,
-          sym (mark-here v 0 h) ∙ ap (λ (l : List ℕ). getD l v 0) q ∙ mark-next v 0 h,
+          sym (mark-here st v 0 h) ∙ ap (λ (l : List ℕ). getD l v 0) q ∙ mark-next v 0 h,
           mark-waits t k v a old,
           mark-settled t (suc k) v (new .0) a f,
           stage-small t v,

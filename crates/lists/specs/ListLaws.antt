@@ -196,12 +196,6 @@ apart-twice (x ∷ l) h =
     (λ q. let r = elem-place x l q in absurd (h 0 (suc (r .0)) (omega arith) (omega (arith, r .1)) (sym (r .2))))
     (λ q. rw q (apart-twice l (λ i j a b. h (suc i) (suc j) (omega arith) (omega arith))))
 
--- a place that is there has the same element, whatever stands for what is past the end
-pub at-place : {A : Type 0} (l : List A) (k : ℕ) (d e : A) → k < length l → getD l k d ≡ getD l k e
-at-place [] k d e h = absurd (not-suc-le-zero h)
-at-place (x ∷ xs) zero d e h = refl
-at-place (x ∷ xs) (suc k) d e h = at-place xs k d e (omega arith)
-
 -- one number more at the end of a list
 
 pub elem-more : (v : ℕ) (l : List ℕ) (x : ℕ) → elem v (l ++ x ∷ []) ≡ elem v l || eqb v x

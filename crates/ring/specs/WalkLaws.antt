@@ -16,7 +16,7 @@ use Rattle.lists.specs.Tests.{by-test, by-equal, by-less, by-option, true≢}
 use Rattle.lists.specs.Parts.{part-to-end, rest-of-first}
 use Rattle.lists.specs.Fill.{padded}
 use Rattle.lists.specs.FillLaws.{padded-length, padded-append}
-use Rattle.lists.specs.ListLaws.{elem-cons, elem-nil, elem-at, elem-place, at-place}
+use Rattle.lists.specs.ListLaws.{elem-cons, elem-nil, elem-at, elem-place, getD-within}
 use Rattle.rules.specs.Table.{nextHop, pathAt}
 use Rattle.rules.specs.Greedy.{fromVertex, beforeVertex, closedPart, lowestOf, turned, ringFrom}
 use Rattle.rules.specs.RingLaws.{from-place}
@@ -30,7 +30,7 @@ module _ (T B : List ℕ) (v r : ℕ) where
 
   pub next-there : v < length B → r ≡ nextHop (pathAt T (getD B v 0)) → r ≡ nextIn T B v
   unfolding nextIn
-  next-there h e = rw (at-place B v 65535 0 h) e
+  next-there h e = rw (getD-within B v 65535 0 h) e
 
 -- the place of v in a list: as many as stand before it
 abbrev pub placeIn : ℕ → List ℕ → ℕ

@@ -26,4 +26,5 @@ pub mod RingLaws
 pub mod ReportLaws
 pub mod MachineLaws
 pub mod RunLaws
+pub mod AnswerLaws
 pub mod TextLaws

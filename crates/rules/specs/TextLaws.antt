@@ -17,13 +17,14 @@ use Rattle.lists.specs.FoldLaws.{fold-append}
 use Rattle.lists.specs.Fill.{blocks}
 use Rattle.lists.specs.FillLaws.{blocks-most, blocks-none, blocks-suc}
 use Rattle.lists.specs.Parts.{part-clipped}
-use Rattle.lists.specs.Tests.{by-test, by-equal, is-inside}
+use Rattle.lists.specs.Tests.{by-test, by-equal}
 use Rattle.lists.specs.NumberLaws.{by-number}
 use Rattle.rules.specs.Table.{recordAt}
-use Rattle.rules.specs.Refusals.{Refusal, refusedIf, _orElse_, refusal}
+use Rattle.rules.specs.Refusals.{Refusal, refusal}
 use Rattle.rules.specs.Report.{report}
 use Rattle.rules.specs.ReportLaws.{ring-length}
-use Rattle.rules.specs.Answers.{Verdict, complete, stuck, refused, verdict, unless, otherLength, checkRefusal, checkVerdict, checkNumbers, rowsAfter, ringAfter}
+use Rattle.rules.specs.Answers.{Verdict, complete, stuck, refused, verdict, unless, checkVerdict, checkNumbers, rowsAfter, ringAfter}
+use Rattle.rules.specs.AnswerLaws.{lent-right}
 use Rattle.rules.specs.Text.{codes, digitsIn, decimal, labelled, spaced, recordWords, refusedLine, verdictLine, stageWords, rowPath, pathWords, rowLine, rowAt, rowLines, ringLine, textOf, checkText}
 
 -- the digits of a number: the last one, and those before it
@@ -242,10 +243,6 @@ unfolding checkText
 check-text-fits t = text-fits _ _ _ (report t .ring) (omega (arith, ring-length t))
 
 -- the check's answer prints as the table's text
-
-lent-right : (t rows ring : List ℕ) → length rows ≡ 1024 → length ring ≡ 64 → checkRefusal t rows ring ≡ refusal t
-unfolding checkRefusal otherLength refusedIf _orElse_
-lent-right t rows ring h l = rw (h, l, is-inside 1024 1024 1024 (omega arith) (omega arith), is-inside 64 64 64 (omega arith) (omega arith))
 
 -- a refused answer prints neither numbers nor buffers
 refused-alone : (o : Option Refusal) (v : Verdict) (ns ns' rows rows' ring ring' : List ℕ)

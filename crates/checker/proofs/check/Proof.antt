@@ -3,7 +3,8 @@
 use mathlib.Core.Path.{sym, _∙_}
 use native.Mathlib.Omega.{arith}
 use borrow.Author.Needs.{needs}
-use Rattle.checker.specs.Checked.{refused-rows, refused-ring, refused-table, checked-refused, checked-accepted, reading-accepted, reading-refused}
+use Rattle.rules.specs.AnswerLaws.{refused-rows, refused-ring, lent-right}
+use Rattle.checker.specs.Checked.{checked-refused, checked-accepted, reading-accepted, reading-refused}
 use Rattle.checker.proofs.check.Statement.{statement}
 use Rattle.checker.proofs.check.Tie as tie
 
@@ -49,7 +50,7 @@ returns-3 c =
     let a = c .before .before .before .before .before .before .before in
     let t = a .before .before in
     checked-accepted _ _ _ _ _ _
-    (refused-table _ _ _ (t .before .before .if1 .left) (t .before .if2 .left)
+    (lent-right _ _ _ (t .before .before .if1 .left) (t .before .if2 .left)
     ∙ reading-accepted _ (sym (a .enum-told .given .1) ∙ t .read .ensures))
     (r .0) (r .1 .0) (r .1 .1 .0) (r .1 .1 .1)
 
@@ -60,7 +61,7 @@ returns-4 : tie.Need-returns-4
 returns-4 c =
     let a = c .before .before .before .before in
     checked-refused _ _ _ _ _ _
-    (refused-table _ _ _ (a .before .before .if1 .left) (a .before .if2 .left)
+    (lent-right _ _ _ (a .before .before .if1 .left) (a .before .if2 .left)
     ∙ reading-refused _ _ _ (sym (c .before .before .reading .given .1) ∙ a .read .ensures))
     (c .refused3 .ensures)
 

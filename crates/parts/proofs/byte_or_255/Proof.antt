@@ -3,7 +3,7 @@
 use mathlib.Core.Path.{sym}
 use borrow.Author.Needs.{needs}
 use lib.ListN.{List·getD-eq-default}
-use Rattle.lists.specs.ListLaws.{at-place}
+use Rattle.lists.specs.ListLaws.{getD-within}
 use Rattle.parts.proofs.byte_or_255.Statement.{statement}
 use Rattle.parts.proofs.byte_or_255.Tie as tie
 
@@ -11,7 +11,7 @@ shared-slice-read-result : tie.Need-shared-slice-read-result
 shared-slice-read-result c = search needs
 
 returns : tie.Need-returns
-returns c = at-place (c .before .before .args .part .now) _ 0 255 (c .before .if1 .taken)
+returns c = getD-within (c .before .before .args .part .now) _ 0 255 (c .before .if1 .taken)
 
 returns-2 : tie.Need-returns-2
 returns-2 c = sym (List·getD-eq-default (c .before .args .part .now) 255 (c .if1 .left))
