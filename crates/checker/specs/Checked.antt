@@ -2,17 +2,14 @@
 use mathlib.Core.Path.{_≡_, refl, sym, ap, _∙_}
 use mathlib.Core.Bool.{Bool}
 use mathlib.Core.List.{List}
-use mathlib.Core.Option.{Option, none, some}
+use mathlib.Core.Option.{none, some}
 use Prim.Native.Nat.{ℕ, suc, zero}
 use lib.ListN.{length}
 use Rattle.lists.specs.Fill.{padded, tabulate}
 use Rattle.rules.specs.Table.{longest}
-use Rattle.rules.specs.Refusals.{Refusal, refusal}
+use Rattle.rules.specs.Refusals.{refusal}
 use Rattle.rules.specs.Report.{report}
 use Rattle.rules.specs.Answers.{checkRefusal, unless, verdict, verdictOf, checkVerdict, checkNumbers, rowsAfter, ringAfter}
-use Rattle.reader.specs.Reading.{readingOf}
-use Rattle.reader.specs.ReadingLaws.{reading-tells}
-use Rattle.reader.specs.declared.Reading.the-variants.{Accepted, Refused}
 use Rattle.answer.specs.declared.Answer.{Answer}
 use Rattle.answer.specs.declared.Verdict.{Verdict}
 use Rattle.answer.specs.declared.Verdict.the-variants as told
@@ -66,15 +63,6 @@ module _ (table rows ring : List ℕ) where
       → Checked table rows ring a rowsNow ringNow
   unfolding checkVerdict verdict checkNumbers rowsAfter ringAfter unless reportNumbers
   checked-accepted a rowsNow ringNow e v n r g = (v ∙ rw e, (n ∙ rw e, (r ∙ rw e, g ∙ rw e)))
-
--- what the reader's answer says
-pub reading-accepted : (o : Option Refusal) → Accepted ≡ readingOf o → o ≡ none
-unfolding readingOf
-reading-accepted o e = sym (reading-tells none o e)
-
-pub reading-refused : (n k : ℕ) (o : Option Refusal) → Refused n k ≡ readingOf o → o ≡ some (record { number = n; place = k })
-unfolding readingOf
-reading-refused n k o e = sym (reading-tells (some (record { number = n; place = k })) o e)
 
 -- the verdict of a ring's length
 pub verdict-none : (n : ℕ) → n ≡ 0 → (meaning told.Complete ≡ verdictOf n) × (ringLengthIn told.Complete ≡ n)

@@ -6,6 +6,7 @@ use Prim.Native.Nat.{ℕ}
 use native.Mathlib.Omega.{arith}
 use Rattle.rules.specs.Refusals.{Refusal, refusal}
 use Rattle.reader.specs.declared.Reading.{Reading}
+use Rattle.reader.specs.declared.Reading.the-variants.{Accepted, Refused}
 use Rattle.reader.specs.Reading.{readingOf}
 
 pub one-reading : (t : List ℕ) (a b : Reading) → a ≡ readingOf (refusal t) → b ≡ readingOf (refusal t) → a ≡ b
@@ -21,3 +22,12 @@ reading-tells (some r) (some s) e =
     let n : r .number ≡ s .number = cc in
     let p : r .place ≡ s .place = cc in
     λ i. some (record { number = n i; place = p i })
+
+-- what each answer says of the refusal
+pub reading-accepted : (o : Option Refusal) → Accepted ≡ readingOf o → o ≡ none
+unfolding readingOf
+reading-accepted o e = sym (reading-tells none o e)
+
+pub reading-refused : (n k : ℕ) (o : Option Refusal) → Refused n k ≡ readingOf o → o ≡ some (record { number = n; place = k })
+unfolding readingOf
+reading-refused n k o e = sym (reading-tells (some (record { number = n; place = k })) o e)

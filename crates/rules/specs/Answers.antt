@@ -11,7 +11,7 @@ use Rattle.lists.specs.Search.{firstIn, outside}
 use Rattle.rules.specs.Table.{Path, pathsOf, listens}
 use Rattle.rules.specs.Refusals.{Refusal, refusedIf, refusedAt, _orElse_, refusal}
 use Rattle.rules.specs.Report.{report}
-use Rattle.rules.specs.Machine.{Pair, heardFault, step, movement}
+use Rattle.rules.specs.Machine.{Pair, heardFault, choiceBytes, step, movement}
 use Rattle.rules.specs.Run.{pairsIn, run}
 
 -- "1: a lent rows, ring, state or movement buffer .. has another length"
@@ -87,6 +87,10 @@ stepMovement t heard p = unless (stepRefusal t heard p) (movement (pathsOf t) he
 
 unfoldable pub heardAfterStep : List ℕ → List ℕ → Pair → List ℕ
 heardAfterStep t heard p = unless (stepRefusal t heard p) (step (pathsOf t) heard p) heard
+
+-- each vertex's choice, as a byte, all 0 where the table is refused
+unfoldable pub choicesIn : List ℕ → List ℕ → List ℕ
+choicesIn t heard = unless (refusal t) (choiceBytes (pathsOf t) heard) (replicate 64 0)
 
 -- the run's numbers: steps, ups, downs, last change and rounds, 0 where refused, and the lent buffers afterwards
 unfoldable pub runNumbers : List ℕ → List ℕ → List ℕ → List ℤ → List ℕ

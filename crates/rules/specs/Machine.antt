@@ -7,6 +7,7 @@ use lib.ListN.{length, getD, set}
 use lib.Dec.{eqb, ltb}
 use lib.IntN.{ℤ, pos, _-ℤ_}
 use Rattle.lists.specs.Search.{firstIn}
+use Rattle.lists.specs.Fill.{tabulate}
 use Rattle.rules.specs.Table.{Path, listensAt}
 use Rattle.rules.specs.Stable.{bestGiven}
 use Rattle.rules.specs.Report.{placeIn, rankIn}
@@ -55,6 +56,10 @@ module _ (paths : ℕ → List Path) where
   -- destination's choice is always (0)"
   unfoldable pub choice : List ℕ → ℕ → Path
   choice heard v = elim (eqb v 0) [ true ↦ 0 ∷ [] | false ↦ bestGiven paths (lastHeard heard v) v ]
+
+  -- each vertex's choice as the byte that a listener would store; "The destination's choice is always (0), stored as 1."
+  unfoldable pub choiceBytes : List ℕ → List ℕ
+  choiceBytes heard = tabulate (λ v. byteFor v (choice heard v)) 64
 
   -- "A step at pair (v, u) stores u's present choice at 64v+u and nothing else."
   unfoldable pub step : List ℕ → Pair → List ℕ

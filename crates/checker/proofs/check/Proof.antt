@@ -4,7 +4,8 @@ use mathlib.Core.Path.{sym, _∙_}
 use native.Mathlib.Omega.{arith}
 use borrow.Author.Needs.{needs}
 use Rattle.rules.specs.AnswerLaws.{refused-rows, refused-ring, lent-right}
-use Rattle.checker.specs.Checked.{checked-refused, checked-accepted, reading-accepted, reading-refused}
+use Rattle.reader.specs.ReadingLaws.{reading-accepted, reading-refused}
+use Rattle.checker.specs.Checked.{checked-refused, checked-accepted}
 use Rattle.checker.proofs.check.Statement.{statement}
 use Rattle.checker.proofs.check.Tie as tie
 
