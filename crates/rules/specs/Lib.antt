@@ -26,5 +26,6 @@ pub mod RingLaws
 pub mod ReportLaws
 pub mod MachineLaws
 pub mod RunLaws
+pub mod ScheduleLaws
 pub mod AnswerLaws
 pub mod TextLaws
