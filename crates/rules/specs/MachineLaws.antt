@@ -30,6 +30,11 @@ unfolding bestGiven extends
 best-same paths f g v e =
     first-same (extends f) (extends g) (paths v) (λ k h. ap (same (rest (getD (paths v) k []))) (e k h))
 
+-- whether the offset listens and how many paths its speaker has decide a bad byte
+pub bad-same : (f g : ℕ → Bool) (m n : ℕ → ℕ) (k b : ℕ) → f k ≡ g k → m (k % 64) ≡ n (k % 64) → badAt f m k b ≡ badAt g n k b
+unfolding badAt
+bad-same f g m n k b d e = by-test (eqb b 0) (λ q. rw (q, badAt)) (λ q. rw (q, badAt, d, e))
+
 module _ (paths : ℕ → List Path) where
   -- the destination speaks of (0)
   pub speaks-destination : speaks paths 0 ≡ (0 ∷ []) ∷ []
