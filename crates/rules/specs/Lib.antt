@@ -28,5 +28,6 @@ pub mod ReportLaws
 pub mod MachineLaws
 pub mod RunLaws
 pub mod RoundLaws
+pub mod ScheduleLaws
 pub mod AnswerLaws
 pub mod TextLaws
