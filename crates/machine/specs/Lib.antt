@@ -6,3 +6,7 @@ pub mod ScanLaws
 pub mod HeardLaws
 pub mod Found
 pub mod ChoiceLaws
+pub mod Moves
+pub mod MoveLaws
+pub mod Stepped
+pub mod StepLaws
