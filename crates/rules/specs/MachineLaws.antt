@@ -161,6 +161,11 @@ module _ (paths : ℕ → List Path) where
       let r = or-none (not heard) (ltb most b) (rw (ne-eqb b 0 h, badByte, badAt) at e) in
       (not-false heard (r .0), ltb-false most b (r .1))
 
+  -- a pair is told by its offset
+  pub offset-listens : (p : Pair) → p .speaker < 64 → listensAt paths (offsetOf p) ≡ listens paths (p .listener) (p .speaker)
+  unfolding listensAt offsetOf
+  offset-listens p s = rw (told-first (p .listener) (p .speaker) s, told-second (p .listener) (p .speaker) s)
+
   -- at a listening pair the byte for any path is not bad
   pub offset-good : (p : Pair) (c : Path)
       → p .speaker < 64
@@ -269,6 +274,15 @@ module _ (paths : ℕ → List Path) (present : ℕ → Bool) (shaped : Shaped p
             speakerSmall = omega (arith, q .vertices 1 (q .long));
             apart = λ z. twice-apart (getD (paths v) k []) (q .simple) 0 1 (omega arith) (q .long) (q .owner ∙ z ∙ sym n);
           }
+
+  -- a listening pair has its own offset in the state
+  pub offset-small : (p : Pair)
+      → listens paths (p .listener) (p .speaker) ≡ true
+      → (offsetOf p < 4096) × (listensAt paths (offsetOf p) ≡ true)
+  unfolding offsetOf
+  offset-small p e =
+      let r = listening (p .listener) (p .speaker) e in
+      (omega (arith, r .listenerSmall, r .speakerSmall), offset-listens paths p (r .speakerSmall) ∙ e)
 
   -- an accepted step keeps the state valid
   pub step-valid : (heard : List ℕ) (p : Pair)
