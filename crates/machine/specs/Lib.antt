@@ -8,5 +8,9 @@ pub mod Found
 pub mod ChoiceLaws
 pub mod Moves
 pub mod MoveLaws
+pub mod Counts
+pub mod CountLaws
+pub mod Rounds
+pub mod RoundLaws
 pub mod Stepped
 pub mod StepLaws

@@ -12,6 +12,7 @@ use mir.Syntax.{w32}
 use Rattle.lists.specs.NumberLaws.{difference-most}
 use Rattle.rules.specs.Table.{Path}
 use Rattle.rules.specs.Machine.{Pair, offsetOf, byteFor, choice, step, standingOf}
+use Rattle.rules.specs.MachineLaws.{standing-of-most}
 use Rattle.machine.specs.Moves.{Says}
 
 -- a number of the size of a standing fits 32 bits
@@ -29,15 +30,10 @@ unfolding standingOf
 standing-more zero f = absurd (f refl)
 standing-more (suc r) f = omega arith
 
-standing-small : (r : ℕ) → standingOf r ≤ 16
-unfolding standingOf
-standing-small zero = omega arith
-standing-small (suc r) = omega arith
-
 -- a standing is read back from its bits
 standing-told : (a r : ℕ) → a ≡ standingOf r → toZ w32 a ≡ pos (standingOf r)
 standing-told a r e =
-    let h : natAbs (pos a) ≤ 16 = omega (arith, standing-small r) in toZ-ofZ {w = w32} {z = pos a} (small-fits (pos a) h) ∙ ap pos e
+    let h : natAbs (pos a) ≤ 16 = omega (arith, standing-of-most r) in toZ-ofZ {w = w32} {z = pos a} (small-fits (pos a) h) ∙ ap pos e
 
 -- so a movement is the difference of the standings
 module _ (old new a b : ℕ) (e : a ≡ standingOf new) (f : b ≡ standingOf old) where
@@ -48,7 +44,7 @@ module _ (old new a b : ℕ) (e : a ≡ standingOf new) (f : b ≡ standingOf ol
   move-fits =
       let c = standingOf new in
       let d = standingOf old in
-      rw difference (small-fits (pos c -ℤ pos d) (difference-most c d 16 (standing-small new) (standing-small old)))
+      rw difference (small-fits (pos c -ℤ pos d) (difference-most c d 16 (standing-of-most new) (standing-of-most old)))
 
   pub move-told : toZ w32 (ofZ w32 (toZ w32 a -ℤ toZ w32 b)) ≡ pos (standingOf new) -ℤ pos (standingOf old)
   move-told = toZ-ofZ {w = w32} move-fits ∙ difference

@@ -1,8 +1,10 @@
 // The machine: the single step, the run over a schedule, and the choices of a heard state.
 mod asked;
 mod choice;
+mod counts;
 mod moves;
 mod pair;
+mod rounds;
 
 ghost use mathlib.Core.Path.{_≡_};
 ghost use Rattle.rules.specs.Answers.{choicesIn, stepRefusal, stepMovement, heardAfterStep};

@@ -22,6 +22,20 @@ use Rattle.rules.specs.Machine.{Pair, offsetOf, speaks, byteFor, pathFor
 use Rattle.rules.specs.Shape.{Permitted, Shaped}
 use Rattle.rules.specs.PathLaws.{Stands, first-among, first-same, place-tells, place-nil, place-most, place-absent}
 
+-- the standing of a rank is at most 16
+pub standing-of-most : (r : ℕ) → standingOf r ≤ 16
+unfolding standingOf
+standing-of-most zero = omega arith
+standing-of-most (suc r) = omega arith
+
+-- ranks up to 16 are told by their standings
+pub standing-of-tells : (r s : ℕ) → r ≤ 16 → s ≤ 16 → standingOf r ≡ standingOf s → r ≡ s
+unfolding standingOf
+standing-of-tells zero zero h l e = refl
+standing-of-tells zero (suc s) h l e = omega arith
+standing-of-tells (suc r) zero h l e = omega arith
+standing-of-tells (suc r) (suc s) h l e = omega arith
+
 -- what is given at the next hops decides what is best
 pub best-same : (paths : ℕ → List Path) (f g : ℕ → Path) (v : ℕ)
     → ((k : ℕ) → k < length (paths v) → f (nextHop (getD (paths v) k [])) ≡ g (nextHop (getD (paths v) k [])))
@@ -221,12 +235,6 @@ module _ (paths : ℕ → List Path) where
   unfolding rankIn
   rank-tells heard v h = place-tells (choice paths heard v) (paths v) (rw (speaks-other v h) at (choice-spoken heard v))
 
-  -- the standing of a rank is at most 16
-  standing-of-most : (r : ℕ) → standingOf r ≤ 16
-  unfolding standingOf
-  standing-of-most zero = omega arith
-  standing-of-most (suc r) = omega arith
-
   -- a standing is at most 16
   pub standing-most : (heard : List ℕ) (v : ℕ) → standing paths heard v ≤ 16
   unfolding standing
@@ -238,14 +246,6 @@ module _ (paths : ℕ → List Path) where
   movement-most heard p =
       difference-most (standing paths (step paths heard p) (p .listener)) (standing paths heard (p .listener)) 16
       (standing-most (step paths heard p) (p .listener)) (standing-most heard (p .listener))
-
-  -- ranks up to 16 are told by their standings
-  standing-of-tells : (r s : ℕ) → r ≤ 16 → s ≤ 16 → standingOf r ≡ standingOf s → r ≡ s
-  unfolding standingOf
-  standing-of-tells zero zero h l e = refl
-  standing-of-tells zero (suc s) h l e = omega arith
-  standing-of-tells (suc r) zero h l e = omega arith
-  standing-of-tells (suc r) (suc s) h l e = omega arith
 
 -- what a listening pair of a shaped table is
 pub record Listening (v u : ℕ) : Type 0 where
@@ -322,7 +322,7 @@ module _ (paths : ℕ → List Path) (present : ℕ → Bool) (shaped : Shaped p
   standing-tells one two v h e =
       let a = choice paths one v in
       let b = choice paths two v in
-      let z = standing-of-tells paths (rankIn paths v a) (rankIn paths v b) (rank-most v a) (rank-most v b) e in
+      let z = standing-of-tells (rankIn paths v a) (rankIn paths v b) (rank-most v a) (rank-most v b) e in
       sym (rank-tells paths one v h) ∙ rw z (rank-tells paths two v h)
 
   -- a vertex with the standing 0 has no choice, but for the destination
@@ -330,5 +330,5 @@ module _ (paths : ℕ → List Path) (present : ℕ → Bool) (shaped : Shaped p
   unfolding standing standingOf
   standing-zero heard v h e =
       let a = choice paths heard v in
-      let z : rankIn paths v a ≡ 0 = standing-of-tells paths (rankIn paths v a) 0 (rank-most v a) (omega arith) e in
+      let z : rankIn paths v a ≡ 0 = standing-of-tells (rankIn paths v a) 0 (rank-most v a) (omega arith) e in
       sym (rank-tells paths heard v h) ∙ rw z
