@@ -14,3 +14,6 @@ pub mod Rounds
 pub mod RoundLaws
 pub mod Stepped
 pub mod StepLaws
+pub mod Going
+pub mod Ran
+pub mod GoingLaws

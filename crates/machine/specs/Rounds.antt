@@ -1,5 +1,5 @@
 -- The rounds as the code keeps them: each offset bears the number of the round in which it was last activated, 0 for none.
-use Prim.Native.Nat.{ℕ, _+_, _<_, _≤_}
+use Prim.Native.Nat.{ℕ, _+_, _-_, _<_, _≤_}
 use mathlib.Core.Path.{_≡_}
 use mathlib.Core.Bool.{Bool, true, false, not, _&&_}
 use mathlib.Core.List.{List}
@@ -18,6 +18,16 @@ newlyAt stamps at number = elim (eqb (getD stamps at 0) number) [ true ↦ 0 | f
 -- how many are missing in the open round: all where none was left
 unfoldable pub missingAfter : ℕ → ℕ → ℕ
 missingAfter left all = elim (eqb left 0) [ true ↦ all | false ↦ left ]
+
+-- how many are left in the open round, which is numbered closed + 1, when an offset is activated
+unfoldable pub leftAfter : List ℕ → ℕ → ℕ → ℕ → ℕ
+leftAfter stamps at closed missing = missing - newlyAt stamps at (closed + 1)
+
+-- an offset that can be activated: it has a stamp, and is not missing where none is
+pub record Open (stamps : List ℕ) (at closed missing : ℕ) : Type 0 where
+  pub room : at < length stamps
+  pub most : newlyAt stamps at (closed + 1) ≤ missing
+  pub few : closed < 4294967295
 
 -- how many of the listening offsets have not been activated since the last closing
 unfoldable pub missingFrom : (ℕ → Bool) → List ℕ → ℕ

@@ -5,6 +5,7 @@ mod counts;
 mod moves;
 mod pair;
 mod rounds;
+mod work;
 
 ghost use mathlib.Core.Path.{_≡_};
 ghost use Rattle.rules.specs.Answers.{choicesIn, stepRefusal, stepMovement, heardAfterStep};
