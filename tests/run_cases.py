@@ -11,7 +11,7 @@ from typing import NamedTuple
 import check_cases
 import reader_cases as reader
 from check_cases import each
-from reader_cases import RECORD_BYTES, VERTICES
+from reader_cases import MOST_HOPS, RECORD_BYTES, VERTICES
 
 HEARD_BYTES, SUMS, NUMBER_BYTES, MOST_PAIRS = VERTICES * VERTICES, VERTICES, 4, 16384
 ZEROS = bytes(HEARD_BYTES)
@@ -52,12 +52,13 @@ class Facts:
     def __init__(self, table):
         records = [table[at : at + RECORD_BYTES] for at in range(0, len(table), RECORD_BYTES)]
         self.table = table
-        self.pairs = sorted({(record[2], record[3]) for record in records})
+        self.listening = {(record[2], record[3]) for record in records}
+        self.pairs = sorted(self.listening)
         self.counts = Counter(record[2] for record in records) + Counter([0])
 
     def highest(self, v, u):
         """The highest byte that is valid at a pair."""
-        return self.counts[u] if (v, u) in self.pairs else 0
+        return self.counts[u] if (v, u) in self.listening else 0
 
 
 SMALL = [check_cases.small_random, check_cases.small_grown, check_cases.silent, check_cases.rings]
@@ -70,6 +71,14 @@ def table(rng):
     make = rng.choice(LARGE if rng.random() < 0.05 else SMALL * 2 + LONG_PATHS)
     facts = Facts(make(rng).table)
     return facts if facts.pairs else table(rng)
+
+
+def line(rng):
+    """Twelve vertices, each with the path along them first and a direct one, so that the last comes to 12 hops."""
+    vertices = rng.sample(check_cases.OWNERS, MOST_HOPS)
+    paths = {v: [(*vertices[at::-1], 0), (v, 0)] for at, v in enumerate(vertices)}
+    paths[vertices[0]].pop()
+    return Facts(check_cases.table(paths))
 
 
 def offset(pair):
@@ -194,8 +203,9 @@ def above(rng, facts):
 def wrapping(rng, facts):
     """A pair with a vertex above 63 whose offset, or whose vertices, wrap onto a listening pair."""
     v, u = rng.choice(facts.pairs)
-    up, turns = VERTICES * rng.randrange(4), rng.randrange(1, 4)
-    return rng.choice([(v + up, u + VERTICES * turns), ((v - turns) % VERTICES + up, u + VERTICES * turns), (v + up, u)])
+    turns, up = rng.randrange(1, 4), VERTICES * rng.randrange(4)
+    past = u + VERTICES * turns
+    return rng.choice([(v + up, past), ((v - turns) % VERTICES + up, past), (v + VERTICES * turns, u)])
 
 
 BAD_PAIRS = {"stray": stray, "turned": turned, "above": above, "wrapping": wrapping}
@@ -204,7 +214,7 @@ BAD_PAIRS = {"stray": stray, "turned": turned, "above": above, "wrapping": wrapp
 def bad_pair(rng, facts, kind=None):
     pair = BAD_PAIRS[kind or rng.choice(list(BAD_PAIRS))](rng, facts)
     # A drawn pair may listen by chance, and a table may have no other of its kind.
-    return bad_pair(rng, facts) if pair in facts.pairs else pair
+    return bad_pair(rng, facts) if pair in facts.listening else pair
 
 
 def ending_badly(rng, facts, kind, place):
@@ -251,8 +261,8 @@ def step_of_other_length(rng):
 # ---- a run
 
 
-def run(rng, heard=valid, order=short, make=None):
-    facts = Facts(make(rng).table) if make else table(rng)
+def run(rng, heard=valid, order=short, make=table):
+    facts = make(rng)
     return Run(facts.table, heard(rng, facts), schedule_of(order(rng, facts)), lent_sums(rng), ACCEPTED)
 
 
@@ -319,30 +329,32 @@ def longest_with_a_bad_pair(rng):
 # ---- several refusals at once
 
 
-def bad_table(rng):
-    """A damaged table and its code: one of 2 to 11."""
-    number = rng.choice([2, 3, *reader.FAULTS])
-    if number in reader.FAULTS:
-        case = rng.choice(reader.damaged(number, 1, rng))
-        return case.table, says(*case.expected)
-    long = bytes(reader.MOST_BYTES + rng.choice([1, 16, 256]))
-    return (long, says(2)) if number == 2 else (b"".join(reader.small(rng)) + b"\x01", says(3))
+def bad_tables(rng):
+    """Damaged tables of each number from 2 to 11, with their codes."""
+    damaged = [case for number in reader.FAULTS for case in reader.damaged(number, 4, rng)]
+    ragged = [(b"".join(reader.small(rng)) + b"\x01", says(3)) for _ in range(12)]
+    long = [(bytes(reader.MOST_BYTES + more), says(2)) for more in (1, 15, 16, 256)]
+    return [(case.table, says(*case.expected)) for case in damaged] + ragged + 3 * long
 
 
-def several(rng):
+def several(count, rng):
+    tables = bad_tables(rng)
+    return [with_faults(rng, *rng.choice(tables)) for _ in range(count)]
+
+
+def with_faults(rng, bad_table, table_says):
     """Two faults or more of a run, each where the call looks for it; the first in the order of the page decides."""
     facts = table(rng)
     kinds = [kind for kind, places in unheard(facts).items() if places]
     heard, state_at = damaged(rng, facts, rng.choice(kinds), rng.choice(["first", "last", "any"]))
     schedule, pair_at = ending_badly(rng, facts, None, rng.choice(["first", "middle", "last"]))
-    bad, table_says = bad_table(rng)
     case = Run(facts.table, valid(rng, facts), schedule_of(short(rng, facts)), lent_sums(rng), ACCEPTED)
     # From the last to the first, so that what an earlier check says stays.
     faults = {
         "pair": lambda case: case._replace(schedule=schedule, says=says(BAD_PAIR, pair_at)),
         "length": lambda case: case._replace(schedule=bad_length(rng, case.schedule), says=says(BAD_LENGTH)),
         "state": lambda case: case._replace(heard=heard, says=says(BAD_STATE, state_at)),
-        "table": lambda case: case._replace(table=bad, says=table_says),
+        "table": lambda case: case._replace(table=bad_table, says=table_says),
         "sums": lambda case: case._replace(sums=lent_sums(rng, rng.choice([0, 63, 65])), says=says(BUFFER_LENGTH)),
         "heard": lambda case: case._replace(heard=case.heard + bytes(1), says=says(BUFFER_LENGTH)),
     }
@@ -352,18 +364,18 @@ def several(rng):
     return case
 
 
+def several_for_a_step(count, rng):
+    """Steps with the faults of runs, but for those of the sums and of the schedule's length, which a step has not."""
+    runs = several(3 * count, rng)
+    own = [case for case in runs if len(case.heard) != HEARD_BYTES or case.says not in (says(1), says(BAD_LENGTH))]
+    return [step_of(rng, case) for case in own[:count]]
+
+
 def step_of(rng, case):
-    """A step with the faults of a run, but for those of its sums and of its schedule's length."""
     place = int(case.says["code"]) // 256
-    if case.says in (says(BUFFER_LENGTH), says(BAD_LENGTH)) and len(case.heard) == HEARD_BYTES:
-        return None
-    is_pair_bad = case.says == says(BAD_PAIR, place)
-    pair = case.schedule[2 * place : 2 * place + 2] if is_pair_bad else rng.randbytes(2)
-    return Step(case.table, case.heard, pair, says(BAD_PAIR) if is_pair_bad else case.says)
-
-
-def several_for_a_step(rng):
-    return step_of(rng, several(rng)) or several_for_a_step(rng)
+    if case.says != says(BAD_PAIR, place):
+        return Step(case.table, case.heard, rng.randbytes(2), case.says)
+    return Step(case.table, case.heard, case.schedule[2 * place : 2 * place + 2], says(BAD_PAIR))
 
 
 # ---- tables of the reader's tests
@@ -417,19 +429,19 @@ def of_tables(make):
 STEPS = {"from_zeros": (each(partial(step, from_zeros=True)), 200), "from_valid": (each(step), 900)}
 STEPS |= {kind: (each(partial(step_at_a_bad_pair, kind=kind)), 60) for kind in BAD_PAIRS}
 STEPS |= at_each(step_in_a_bad_state, STATES, 20) | of_tables(steps_from_reader)
-STEPS |= {"other_length": (each(step_of_other_length), 60), "several": (each(several_for_a_step), 200)}
+STEPS |= {"other_length": (each(step_of_other_length), 60), "several": (several_for_a_step, 200)}
 
 RUNS = {
     "from_zeros": (each(partial(run, heard=zeros)), 300),
     "from_valid": (each(run), 600),
     "many_rounds": (each(partial(run, order=settling)), 60),
-    "twelve_hops": (each(partial(run, order=settling, make=check_cases.twelve_hops)), 80),
+    "line": (each(partial(run, order=settling, make=line)), 20),
     "empty_schedule": (each(partial(run, order=nothing)), 60),
     "longest_schedule": (each(partial(run, order=longest)), 30),
     "longest_with_a_bad_pair": (each(longest_with_a_bad_pair), 10),
     "other_lengths": (each(run_of_other_lengths), 100),
     "bad_length": (each(run_of_bad_length), 100),
-    "several": (each(several), 400),
+    "several": (several, 400),
 }
 RUNS |= at_each(run_to_a_bad_pair, PAIRS, 20) | at_each(run_in_a_bad_state, STATES, 20) | of_tables(from_reader)
 KINDS = {"step": STEPS, "run": RUNS}

@@ -29,11 +29,11 @@ for fields in FIELDS.values():
     fields["around"] = comparing.characters
 
 # The run is worth little if one of these hardly occurs: each with its least number.
-STEP_MIX = {"cases": 2000, "up": 150, "down": 50, "no movement": 150, "movement 16": 10, "movement -16": 5}
+STEP_MIX = {"cases": 2000, "up": 150, "down": 30, "no movement": 150, "movement 16": 10, "movement -16": 5}
 STEP_MIX |= {"stored and not moved": 40, "refused 1": 60, "refused 12": 150, "refused 14": 200}
 RUN_MIX = {"cases": 2000, "ups and downs": 250, "no change": 30, "last change before the end": 200}
 RUN_MIX |= {"last change at the end": 20, "no round": 100, "one round": 50, "many rounds": 50, "16384 steps": 20}
-RUN_MIX |= {"sum below 0": 100, "text with none": 300, "text of twelve hops": 5}
+RUN_MIX |= {"sum below 0": 100, "text with none": 300, "text of twelve hops": 15}
 RUN_MIX |= {f"refused {number}": least for number, least in {1: 150, 12: 180, 13: 80, 14: 200}.items()}
 for mix in (STEP_MIX, RUN_MIX):
     mix |= {f"refused {number}": 20 for number in range(2, 12)}
@@ -230,7 +230,8 @@ class Compared:
     def test_the_mix_has_each_kind(self):
         pairs = [pair for kind in run_cases.KINDS[self.which] for pair in compared(self.which, kind)]
         found, mix = Counter(label for pair in pairs for label in labels(self.which, *pair)), MIX[self.which]
-        print(f"test_run: seed {SEED}, {self.which}, " + ", ".join(f"{label}: {found[label]}" for label in mix), flush=True)
+        said = ", ".join(f"{label}: {found[label]}" for label in mix)
+        print(f"test_run: seed {SEED}, {self.which}, {said}", flush=True)
         self.assertEqual({label: found[label] for label in mix if found[label] < mix[label]}, {})
 
     def test_other_room_for_the_numbers(self):
