@@ -100,12 +100,6 @@ def agreed_texts(kind, words, pairs, length):
             blame(kind, cases, number, f"{found} and not {expected}")
 
 
-def add_tests(case, names):
-    """Each name becomes a test of its own, so that the gate counts it as one."""
-    for name in names:
-        setattr(case, f"test_{name.replace('-', '_')}", lambda self, name=name: self.held(name))
-
-
 # ---- the first difference
 
 

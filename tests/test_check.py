@@ -226,8 +226,8 @@ class Planted(unittest.TestCase):
             self.assertTrue(re.match(f"{name} at 0 is ", comparing.difference(FIELDS, words, other)))
 
 
-comparing.add_tests(Check, check_cases.KINDS)
-comparing.add_tests(Planted, PLANTS)
+test_samples.add_tests(Check, check_cases.KINDS)
+test_samples.add_tests(Planted, PLANTS)
 
 if __name__ == "__main__":
     unittest.main()

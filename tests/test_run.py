@@ -423,10 +423,10 @@ class PlantedRuns(Planted, unittest.TestCase):
     cases = staticmethod(planted_runs)
 
 
-comparing.add_tests(ByHand, BY_HAND)
+test_samples.add_tests(ByHand, BY_HAND)
 for which, kinds, plants in (("step", Steps, PlantedSteps), ("run", Runs, PlantedRuns)):
-    comparing.add_tests(kinds, run_cases.KINDS[which])
-    comparing.add_tests(plants, PLANTS[which])
+    test_samples.add_tests(kinds, run_cases.KINDS[which])
+    test_samples.add_tests(plants, PLANTS[which])
 # A class under two names would be tested twice.
 del kinds, plants
 
