@@ -103,8 +103,8 @@ def valid(rng, facts):
     return with_bytes(ZEROS, {offset(p): rng.choice([most, rng.randint(0, most)]) for p, most in highest.items()})
 
 
-def unheard(facts):
-    """Where a fault of each kind can stand: at a pair that does not listen, above the records, and above (0)."""
+def fault_places(facts):
+    """The offsets at which a fault of each kind can stand: no listening pair, above the speaker's records, above (0)."""
     listening = {offset(pair) for pair in facts.pairs}
     return {
         "not_listening": [at for at in range(HEARD_BYTES) if at not in listening],
@@ -122,7 +122,7 @@ def bad_byte(rng, facts, at):
 def damaged(rng, facts, kind, place):
     """A state whose lowest fault is of that kind, at the first offset that can have it, the last or another; others
     may stand behind it. Gives the offset too."""
-    places = unheard(facts)[kind]
+    places = fault_places(facts)[kind]
     at = {"first": places[0], "last": places[-1], "any": rng.choice(places)}[place]
     behind = rng.sample(range(at + 1, HEARD_BYTES), min(rng.choice([0, 0, 1, 5]), HEARD_BYTES - at - 1))
     faults = {fault: bad_byte(rng, facts, fault) for fault in [at, *behind]}
@@ -132,7 +132,7 @@ def damaged(rng, facts, kind, place):
 def with_places(rng, kind):
     """The facts of a table in which a fault of that kind has a place."""
     facts = table(rng)
-    return facts if unheard(facts)[kind] else with_places(rng, kind)
+    return facts if fault_places(facts)[kind] else with_places(rng, kind)
 
 
 OTHER_LENGTHS = [0, 1, 64, HEARD_BYTES - 1, HEARD_BYTES + 1, 2 * HEARD_BYTES, HEARD_BYTES + 65536]
@@ -197,7 +197,8 @@ def turned(rng, facts):
 
 def above(rng, facts):
     v, u = rng.choice(facts.pairs)
-    return rng.choice([(v, rng.randint(64, 255)), (rng.randint(64, 255), u), (64, 64), (255, 255), (v, 64), (64, u)])
+    high = rng.choice([VERTICES, 255, rng.randint(VERTICES, 255)])
+    return rng.choice([(v, high), (high, u), (high, high)])
 
 
 def wrapping(rng, facts):
@@ -298,9 +299,9 @@ def run_to_a_bad_pair(rng, kind, place):
 def run_of_other_lengths(rng):
     """The state, the sums, or both."""
     case = run(rng)
-    lengths = rng.choice([(0, 1), (1, 0), (1, 1)])
-    heard = of_length(case.heard, rng.choice(OTHER_LENGTHS)) if lengths[0] else case.heard
-    count = rng.choice([0, 1, SUMS - 1, SUMS + 1, 4 * SUMS, SUMS + 256]) if lengths[1] else SUMS
+    other = rng.choice([["heard"], ["sums"], ["heard", "sums"]])
+    heard = of_length(case.heard, rng.choice(OTHER_LENGTHS)) if "heard" in other else case.heard
+    count = rng.choice([0, 1, SUMS - 1, SUMS + 1, 4 * SUMS, SUMS + 256]) if "sums" in other else SUMS
     return case._replace(heard=heard, sums=lent_sums(rng, count), says=says(BUFFER_LENGTH))
 
 
@@ -345,7 +346,7 @@ def several(count, rng):
 def with_faults(rng, bad_table, table_says):
     """Two faults or more of a run, each where the call looks for it; the first in the order of the page decides."""
     facts = table(rng)
-    kinds = [kind for kind, places in unheard(facts).items() if places]
+    kinds = [kind for kind, places in fault_places(facts).items() if places]
     heard, state_at = damaged(rng, facts, rng.choice(kinds), rng.choice(["first", "last", "any"]))
     schedule, pair_at = ending_badly(rng, facts, None, rng.choice(["first", "middle", "last"]))
     case = Run(facts.table, valid(rng, facts), schedule_of(short(rng, facts)), lent_sums(rng), ACCEPTED)
@@ -367,7 +368,8 @@ def with_faults(rng, bad_table, table_says):
 def several_for_a_step(count, rng):
     """Steps with the faults of runs, but for those of the sums and of the schedule's length, which a step has not."""
     runs = several(3 * count, rng)
-    own = [case for case in runs if len(case.heard) != HEARD_BYTES or case.says not in (says(1), says(BAD_LENGTH))]
+    others = (says(BUFFER_LENGTH), says(BAD_LENGTH))
+    own = [case for case in runs if len(case.heard) != HEARD_BYTES or case.says not in others]
     return [step_of(rng, case) for case in own[:count]]
 
 

@@ -15,7 +15,7 @@ import comparing
 import run_cases
 import test_program
 import test_samples
-from comparing import ROOT, SECOND, SEED
+from comparing import SECOND, SEED
 from test_program import FRONT
 
 LONGEST_TABLE, LONGEST_SCHEDULE = 16128, 32768
@@ -132,9 +132,8 @@ class Files(Folder):
         table, schedule = test_samples.sample("deep-63.table"), test_samples.sample("deep-63.downwards.schedule")
         for path, content in ((self.table, table), (self.schedule, schedule)):
             os.mkfifo(path)
-            writer = threading.Thread(target=write_in_pieces, args=(path, content))
-            writer.start()
-            self.addCleanup(writer.join)
+            # A daemon, since it would wait for ever for a program that never opens its file.
+            threading.Thread(target=write_in_pieces, args=(path, content), daemon=True).start()
         text = (test_samples.SAMPLES / "deep-63.downwards.txt").read_text()
         self.assertEqual(front("run", self.table, self.schedule, timeout=20), (0, text, ""))
 
