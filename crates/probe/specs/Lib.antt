@@ -1,3 +1,4 @@
 pub mod Numbers
 pub mod NumberLaws
 pub mod CheckLaws
+pub mod MoveLaws

@@ -30,4 +30,5 @@ pub mod RunLaws
 pub mod RoundLaws
 pub mod ScheduleLaws
 pub mod AnswerLaws
+pub mod PlaceLaws
 pub mod TextLaws
