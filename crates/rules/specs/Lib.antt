@@ -8,6 +8,7 @@ pub mod Run
 pub mod Refusals
 pub mod Answers
 pub mod Text
+pub mod RunText
 -- The worked examples.
 pub mod Examples
 pub mod TextExamples
