@@ -4,20 +4,18 @@ use mathlib.Core.Logic.{_≢_, _⊎_, inl, inr}
 use mathlib.Core.Bool.{Bool, true}
 use mathlib.Core.List.{List, [], _∷_}
 use mathlib.Core.Option.{none}
-use Prim.Native.Nat.{ℕ, _+_, _-_, _<_, _≤_, min}
+use Prim.Native.Nat.{ℕ, _+_, _-_, _<_, min}
 use native.Mathlib.Omega.{arith}
 use lib.ListN.{length, getD}
 use borrow.Author.Tests.{eq-eqb, ne-eqb}
 use Rattle.lists.specs.Tests.{by-test, by-equal}
 use Rattle.lists.specs.Fill.{padded}
 use Rattle.lists.specs.FillLaws.{tabulate-at, padded-whole}
-use Rattle.rules.specs.Table.{Path, records, pathAt, ownerAt, owned, pathsOf, pathsBelow, slotsOf, nextHop, recordAt}
+use Rattle.rules.specs.Table.{Path, records, pathAt, ownerAt, owned, pathsOf, pathsBelow, slotsOf, nextHop}
 use Rattle.rules.specs.Refusals.{refusal}
 use Rattle.rules.specs.Greedy.{isSettled, compatible, judged, best}
-use Rattle.rules.specs.Accepted.{accepted}
 use Rattle.rules.specs.ShapeLaws.{path-length}
-use Rattle.rules.specs.Blocks.{here, owned-length, owned-at}
-use Rattle.rules.specs.TableLaws.{record-past, path-short}
+use Rattle.rules.specs.Blocks.{here, few-records, no-path, owned-length, owned-at, owned-few, owned-below}
 use Rattle.judge.specs.Standing.{isIn, settledBy, firstRecord, bestRecord, entersWith}
 use Rattle.judge.specs.StandingLaws.{in-settled, out-unsettled}
 use Rattle.judge.specs.SlotLaws.{Filled, record-padded, record-among, record-path}
@@ -26,30 +24,17 @@ use Rattle.checker.specs.Settling.{Own}
 -- the record of no path
 
 module _ (t : List ℕ) (e : refusal t ≡ none) where
-  -- an accepted table has no record 65,535
-  pub few-records : records t ≤ 1008
-  unfolding records
-  few-records = let a = accepted t e in omega (arith, a .short)
-
-  pub no-path : pathAt t 65535 ≡ []
-  unfolding records
-  no-path = sym (path-short [] (recordAt t 65535) (record-past t 65535 (omega (arith, few-records))) (omega arith))
-
   -- what is searched for a vertex
   module _ (v : ℕ) where
     owned-filled : Filled (owned t (records t) v)
     owned-filled k h =
-        let l : k < here t e v .size = omega (arith, owned-length t e v) in
-        λ q. omega (arith, owned-at t e v k l, here t e v .within, few-records)
+        λ q. omega (arith, owned-below t e v k h, few-records t e)
 
     owned-own : (k : ℕ) → k < length (owned t (records t) v) → Own t v (getD (owned t (records t) v) k 0)
     owned-own k h =
         let l : k < here t e v .size = omega (arith, owned-length t e v) in
         let b = here t e v in
         inr (omega (arith, owned-at t e v k l, b .within), ap (ownerAt t) (owned-at t e v k l) ∙ b .mine (b .start + k) (omega arith) (omega arith))
-
-    owned-few : length (owned t (records t) v) ≤ 16
-    owned-few = omega (arith, owned-length t e v, here t e v .most)
 
   -- a record that a vertex shows has a path, and only then
   own-path : (v i : ℕ) → Own t v i → i ≢ 65535 → pathAt t i ≢ []
@@ -85,7 +70,7 @@ module _ (t : List ℕ) (e : refusal t ≡ none) where
     unfolding isSettled judged
     enters-judged v b o =
         by-equal b 65535
-        (λ q. enters-without b q ∙ sym (ap (λ (p : Path). isSettled (judged (settledBy t marks shown) p)) (ap (pathAt t) q ∙ no-path)))
+        (λ q. enters-without b q ∙ sym (ap (λ (p : Path). isSettled (judged (settledBy t marks shown) p)) (ap (pathAt t) q ∙ no-path t e)))
         (λ q. enters-through b q ∙ sym (settled-mark (nextHop (pathAt t b))) ∙ sym (judged-through (pathAt t b) (own-path v b o q)))
 
     -- the search through the slots finds the best compatible path
@@ -93,16 +78,16 @@ module _ (t : List ℕ) (e : refusal t ≡ none) where
       searched : bestRecord t marks shown (getD slots v []) ≡ bestRecord t marks shown (owned t (records t) v)
       unfolding slotsOf bestRecord
       searched =
-          let n : min (records t) 1008 ≡ records t = omega (arith, few-records) in
+          let n : min (records t) 1008 ≡ records t = omega (arith, few-records t e) in
           let look : ℕ → Bool = λ i. compatible (settledBy t marks shown) (pathAt t i) in
           ap (λ (l : List (List ℕ)). firstRecord look (getD l v [])) (s ∙ ap (slotsOf t) n)
           ∙ ap (firstRecord look) (tabulate-at (λ w. padded 16 65535 (owned t (records t) w)) 64 v [] h
-          ∙ padded-whole 65535 16 (owned t (records t) v) (owned-few v))
+          ∙ padded-whole 65535 16 (owned t (records t) v) (owned-few t e v))
           ∙ record-padded look (owned t (records t) v) (16 - length (owned t (records t) v)) (owned-filled v)
 
       pub best-found : pathAt t (bestRecord t marks shown (getD slots v [])) ≡ best (pathsOf t) (settledBy t marks shown) v
       unfolding bestRecord best pathsOf pathsBelow
-      best-found = ap (pathAt t) searched ∙ record-path t (compatible (settledBy t marks shown)) no-path (owned t (records t) v) (owned-filled v)
+      best-found = ap (pathAt t) searched ∙ record-path t (compatible (settledBy t marks shown)) (no-path t e) (owned t (records t) v) (owned-filled v)
 
       pub best-own : Own t v (bestRecord t marks shown (getD slots v []))
       unfolding bestRecord

@@ -29,7 +29,7 @@ use Rattle.judge.specs.StandingLaws.{holds-record, settled-holds}
 use Rattle.ring.specs.Ring.{ringIn}
 use Rattle.ring.specs.RingLaws.{ring-agrees}
 use Rattle.checker.specs.Settling.{Own, Ended}
-use Rattle.checker.specs.BestLaws.{few-records, no-path}
+use Rattle.rules.specs.Blocks.{few-records, no-path}
 use Rattle.checker.specs.MarkLaws.{mark-here, mark-absent, mark-waits, mark-settled, stage-small}
 use Rattle.checker.specs.StartLaws.{stage-origin}
 use Rattle.checker.specs.Rows.{shownRow, isBetween, countBetween}

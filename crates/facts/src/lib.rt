@@ -1,8 +1,10 @@
-// What the check and the machine need of a table, for any bytes: the longest hops, who is present, who listens, the slots.
+// What the check and the machine need of a table, for any bytes: the longest hops, who is present, who listens, who speaks of how many paths, the slots.
 ghost use mathlib.Core.Path.{_≡_};
 ghost use Prim.Native.Nat.{min};
+ghost use lib.ListN.{length};
 ghost use Rattle.lists.specs.Fill.{tabulate};
 ghost use Rattle.rules.specs.Table.{records, longest, present, pathsOf, slotsOf, listensAt};
+ghost use Rattle.rules.specs.Machine.{speaks};
 ghost use Rattle.rules.specs.PassLaws.{pairMarked};
 use parts::at_most;
 use parts::larger;
@@ -65,6 +67,25 @@ pub fn listening_in(t: &[u8]) -> [bool; 4096]
         i += 1;
     }
     marks
+}
+
+// How many paths each vertex can speak of: one for the destination, for every other its records.
+pub fn spoken_in(t: &[u8]) -> [usize; 64]
+    ensures { λ r. ⌜ r ≡ tabulate (λ u. length (speaks (pathsOf (now (t .entry))) u)) 64 ⌝ }
+{
+    let count = t.len() / 16;
+    let mut spoken = [0usize; 64];
+    let mut i = 0;
+    while i < count {
+        let v = owner_at(t, i) as usize;
+        i += 1;
+        if 64 <= v {
+            continue;
+        }
+        spoken[v] = spoken[v] + 1;
+    }
+    spoken[0] = 1;
+    spoken
 }
 
 // The best-first slots of the first 1,008 records: 16 record numbers for each vertex, built in one pass.

@@ -1,6 +1,6 @@
 -- Laws of the fold from the left: step and end, two folds one after the other, what a fold keeps, and how a part of the state goes.
 use mathlib.Core.Path.{_≡_, refl}
-use mathlib.Core.List.{List, [], _∷_, _++_}
+use mathlib.Core.List.{List, [], _∷_, _++_, append-nil, append-assoc}
 use Prim.Native.Nat.{ℕ, suc, _+_, _<_}
 use native.Mathlib.Omega.{arith}
 use lib.ListN.{length, getD}
@@ -42,6 +42,27 @@ module _ {A B : Type 0} (f : B → A → B) where
   fold-keeps-of Q P keep d y [] all h = h
   fold-keeps-of Q P keep d y (x ∷ xs) all h =
       fold-keeps-of Q P keep d (f y x) xs (λ k l. all (suc k) (omega arith)) (keep y x (all 0 (omega arith)) h)
+
+  -- what every step keeps of the elements so far and the state, the fold keeps
+  pub fold-follows : (P : List A → B → Type 0)
+      → ((done : List A) (y : B) (x : A) → P done y → P (done ++ x ∷ []) (f y x))
+      → (done : List A) (y : B) (xs : List A)
+      → P done y
+      → P (done ++ xs) (foldLeft f y xs)
+  unfolding foldLeft
+  fold-follows P keep done y [] h = rw (append-nil done) h
+  fold-follows P keep done y (x ∷ xs) h =
+      rw (append-assoc done (x ∷ []) xs) at (fold-follows P keep (done ++ x ∷ []) (f y x) xs (keep done y x h))
+
+  -- what every step keeps between two states, two folds over the same elements keep
+  pub fold-alike : (R : B → B → Type 0)
+      → ((y z : B) (x : A) → R y z → R (f y x) (f z x))
+      → (y z : B) (xs : List A)
+      → R y z
+      → R (foldLeft f y xs) (foldLeft f z xs)
+  unfolding foldLeft
+  fold-alike R keep y z [] h = h
+  fold-alike R keep y z (x ∷ xs) h = fold-alike R keep (f y x) (f z x) xs (keep y z x h)
 
   -- a part of the state that goes its own way, goes it through the fold
   pub fold-part : {C : Type 0} (g : B → C) (h : C → A → C)

@@ -3,7 +3,7 @@ use mathlib.Core.Path.{_≡_, refl, sym, ap, _∙_}
 use mathlib.Core.Logic.{⊎-elim}
 use mathlib.Core.Bool.{Bool, true, false, _||_, or-assoc, or-false}
 use mathlib.Core.List.{List, [], _∷_, _++_}
-use mathlib.Core.Option.{none, some}
+use mathlib.Core.Option.{Option, none, some}
 use Prim.Native.Nat.{ℕ, zero, suc, _+_, _<_, _≤_}
 use native.Mathlib.Omega.{arith}
 use native.Mathlib.Nat.{not-suc-le-zero}
@@ -109,6 +109,40 @@ module _ {A : Type 0} (test : ℕ → A → Bool) where
       let z : i + 0 ≡ i = omega arith in
       first-in-miss i x xs (rw z at (f 0 (omega arith))) ∙ all-fail-in xs d (suc i)
       (λ k h. let y : suc i + k ≡ i + suc k = omega arith in rw y (f (suc k) (omega arith)))
+
+  -- what is found is a place of the list
+  pub first-in-under : (l : List A) (i k : ℕ) → firstIn test i l ≡ some k → k < i + length l
+  first-in-under [] i k e = absurd (none≢some (first-in-nil i) e)
+  first-in-under (x ∷ xs) i k e =
+      by-test (test i x)
+      (λ q. let h : some i ≡ some k = sym (first-in-hit i x xs q) ∙ e in let z : i ≡ k = cc in omega arith)
+      (λ q. omega (arith, first-in-under xs (suc i) k (sym (first-in-miss i x xs q) ∙ e)))
+
+  -- a search of the list that has come to i, with the answer o still to be found from there on
+
+  module _ (l : List A) (d : A) (i : ℕ) (o : Option ℕ) (come : firstIn test i (drop i l) ≡ o) where
+    pub seek-hit : i < length l → test i (getD l i d) ≡ true → o ≡ some i
+    seek-hit h e = sym come ∙ rw (drop-cons l i d h) (first-in-hit i (getD l i d) (drop (suc i) l) e)
+
+    pub seek-next : i < length l → test i (getD l i d) ≡ false → firstIn test (i + 1) (drop (i + 1) l) ≡ o
+    seek-next h e = rw add-one (sym (rw (drop-cons l i d h) (first-in-miss i (getD l i d) (drop (suc i) l) e)) ∙ come)
+
+    pub seek-end : length l ≤ i → o ≡ none
+    seek-end h = sym come ∙ rw (drop-of-length-le l h) (first-in-nil i)
+
+-- tests that agree find the same
+pub first-in-ext : {A : Type 0} (f g : ℕ → A → Bool) (l : List A) (d : A) (i : ℕ)
+    → ((k : ℕ) → k < length l → f (i + k) (getD l k d) ≡ g (i + k) (getD l k d))
+    → firstIn f i l ≡ firstIn g i l
+first-in-ext f g [] d i e = first-in-nil f i ∙ sym (first-in-nil g i)
+first-in-ext f g (x ∷ xs) d i e =
+    let z : i + 0 ≡ i = omega arith in
+    let here : f i x ≡ g i x = rw z at (e 0 (omega arith)) in
+    let later = first-in-ext f g xs d (suc i)
+    (λ k h. let y : suc i + k ≡ i + suc k = omega arith in rw y (e (suc k) (omega arith))) in
+    by-test (f i x)
+    (λ q. first-in-hit f i x xs q ∙ sym (first-in-hit g i x xs (sym here ∙ q)))
+    (λ q. first-in-miss f i x xs q ∙ later ∙ sym (first-in-miss g i x xs (sym here ∙ q)))
 
 -- whether a number stands in a list
 

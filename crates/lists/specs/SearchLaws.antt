@@ -8,6 +8,7 @@ use Prim.Native.Nat.{ℕ, zero, suc, _+_, _-_, _<_, _≤_, max}
 use native.Mathlib.Omega.{arith}
 use native.Mathlib.Nat.{not-suc-le-zero}
 use native.Mathlib.Numerals.{add-one}
+use lib.ListN.{length, length-append}
 use lib.Dec.{eqb}
 use borrow.Author.Tests.{eq-eqb, ne-eqb}
 use Rattle.lists.specs.Search.{firstFrom, anyBelow, countBelow, thoseBelow, maxBelow}
@@ -128,6 +129,14 @@ module _ (test : ℕ → Bool) where
   pub count-out : (n : ℕ) → test n ≡ false → countBelow test (suc n) ≡ countBelow test n
   unfolding countBelow
   count-out n e = rw (e, countBelow)
+
+  pub those-count : (n : ℕ) → length (thoseBelow test n) ≡ countBelow test n
+  unfolding thoseBelow countBelow
+  those-count zero = refl
+  those-count (suc n) =
+      by-test (test n)
+      (λ q. ap length (those-in n q) ∙ length-append (thoseBelow test n) (n ∷ []) ∙ omega (arith, count-in n q, those-count n))
+      (λ q. ap length (those-out n q) ∙ those-count n ∙ sym (count-out n q))
 
   pub count-most : (n : ℕ) → countBelow test n ≤ n
   unfolding countBelow

@@ -1,6 +1,6 @@
 // Small questions about parts of a byte slice, and marks: nothing here knows a record.
 ghost use mathlib.Core.Path.{_≡_};
-ghost use mathlib.Core.Bool.{true};
+ghost use mathlib.Core.Bool.{true, false};
 ghost use Prim.Native.Nat.{min, max};
 ghost use lib.ListN.{getD, length, set};
 ghost use Rattle.lists.specs.Search.{anyIn, outside, same, twice};
@@ -72,6 +72,16 @@ pub fn same_parts(a: &[u8], b: &[u8]) -> bool
         i += 1;
     }
     true
+}
+
+// Whether a place is marked; past the end none is.
+pub fn is_marked(marks: &[bool], at: usize) -> bool
+    ensures { λ r. ⌜ r ≡ getD (now (marks .entry)) at false ⌝ }
+{
+    if marks.len() <= at {
+        return false;
+    }
+    marks[at]
 }
 
 // Marks a place, where there is one.

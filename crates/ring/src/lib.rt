@@ -1,22 +1,13 @@
 // The ring of the stuck vertices, for any bytes and marks: whom each follows is told by the record of its best compatible path.
 ghost use mathlib.Core.Path.{_≡_};
-ghost use mathlib.Core.Bool.{false};
-ghost use lib.ListN.{getD, length};
+ghost use lib.ListN.{length};
 ghost use Rattle.lists.specs.Fill.{padded};
 ghost use Rattle.rules.specs.Greedy.{beforeVertex, lowestOf, turned};
 ghost use Rattle.ring.specs.Ring.{ClosedAt, lowestMarked, nextIn, ringIn};
 use parts::at_most;
 use parts::fill_padded;
+use parts::is_marked;
 use record::next_at;
-
-fn is_marked(marks: &[bool], v: usize) -> bool
-    ensures { λ r. ⌜ r ≡ getD (now (marks .entry)) v false ⌝ }
-{
-    if marks.len() <= v {
-        return false;
-    }
-    marks[v]
-}
 
 // The lowest marked vertex, 64 where there is none.
 fn lowest_marked(marks: &[bool]) -> u8

@@ -1,14 +1,20 @@
--- Laws of the check's refusal: 1 where a lent buffer has another length, otherwise the table's own.
-use mathlib.Core.Path.{_≡_}
-use mathlib.Core.Bool.{true, false}
-use mathlib.Core.List.{List}
-use mathlib.Core.Option.{Option, some}
+-- Laws of the refusals of the check, the step and the run: one for each way through the entries.
+use mathlib.Core.Path.{_≡_, _∙_}
+use mathlib.Core.Bool.{Bool, true, false, _||_}
+use mathlib.Core.List.{List, [], _∷_}
+use mathlib.Core.Option.{Option, none, some}
 use Prim.Native.Nat.{ℕ}
 use native.Mathlib.Omega.{arith}
 use lib.ListN.{length}
+use lib.IntN.{ℤ}
 use Rattle.lists.specs.Tests.{by-less, or-left, or-right, neither, is-inside, below-out, above-out}
-use Rattle.rules.specs.Refusals.{Refusal, refusal, refusedIf, _orElse_}
-use Rattle.rules.specs.Answers.{otherLength, checkRefusal}
+use Rattle.lists.specs.Search.{firstIn}
+use Rattle.rules.specs.Table.{pathsOf, listens}
+use Rattle.rules.specs.Refusals.{Refusal, refusal, refusedIf, refusedAt, _orElse_}
+use Rattle.rules.specs.Machine.{Pair, heardFault}
+use Rattle.rules.specs.Run.{pairsIn}
+use Rattle.rules.specs.Answers.{otherLength, scheduleBad, firstBadPair, checkRefusal, stepRefusal, runRefusal}
+use Rattle.rules.specs.TableLaws.{at}
 
 other-length : {A : Type 0} (n : ℕ) (l : List A) → (length l ≡ n → ⊥) → otherLength n l ≡ true
 unfolding otherLength
@@ -18,19 +24,121 @@ same-length : {A : Type 0} (n : ℕ) (l : List A) → length l ≡ n → otherLe
 unfolding otherLength
 same-length n l e = is-inside n n (length l) (omega arith) (omega arith)
 
-abbrev one : Option Refusal
-one = some (record { number = 1; place = 0 })
+-- of two lent buffers one has another length, or neither has
+
+module _ {A B : Type 0} (m n : ℕ) (a : List A) (b : List B) where
+  first-other : (length a ≡ m → ⊥) → otherLength m a || otherLength n b ≡ true
+  first-other f = or-left (otherLength m a) (otherLength n b) (other-length m a f)
+
+  second-other : (length b ≡ n → ⊥) → otherLength m a || otherLength n b ≡ true
+  second-other f = or-right (otherLength m a) (otherLength n b) (other-length n b f)
+
+  both-same : length a ≡ m → length b ≡ n → otherLength m a || otherLength n b ≡ false
+  both-same d e = neither (otherLength m a) (otherLength n b) (same-length m a d) (same-length n b e)
+
+-- a test at the head of the checks decides where it holds, and leaves it to the rest where it fails
+
+module _ (test : Bool) (n : ℕ) (rest : Option Refusal) where
+  if-decides : test ≡ true → refusedIf test n orElse rest ≡ at n 0
+  unfolding refusedIf _orElse_
+  if-decides e = rw e
+
+  if-passes : test ≡ false → refusedIf test n orElse rest ≡ rest
+  unfolding refusedIf _orElse_
+  if-passes e = rw e
+
+-- what the step and the run have in common: the lent buffers, the table and the heard state are checked before the rest
+
+module _ (wrong : Bool) (table : Option Refusal) (fault : Option ℕ) (rest : Option Refusal) where
+  abbrev checks : Option Refusal
+  checks = refusedIf wrong 1 orElse table orElse refusedAt fault 12 orElse rest
+
+  table-decides : wrong ≡ false → (r : Refusal) → table ≡ some r → checks ≡ some r
+  unfolding _orElse_
+  table-decides lent r e = if-passes wrong 1 _ lent ∙ rw e
+
+  state-decides : wrong ≡ false → (k : ℕ) → table ≡ none → fault ≡ some k → checks ≡ at 12 k
+  unfolding refusedAt _orElse_
+  state-decides lent k e f = if-passes wrong 1 _ lent ∙ rw (e, f)
+
+  rest-decides : wrong ≡ false → table ≡ none → fault ≡ none → checks ≡ rest
+  unfolding refusedAt _orElse_
+  rest-decides lent e f = if-passes wrong 1 _ lent ∙ rw (e, f)
 
 module _ (table rows ring : List ℕ) where
-  pub refused-rows : (length rows ≡ 1024 → ⊥) → checkRefusal table rows ring ≡ one
-  unfolding checkRefusal refusedIf _orElse_
-  refused-rows f = rw (or-left (otherLength 1024 rows) (otherLength 64 ring) (other-length 1024 rows f), checkRefusal)
+  pub refused-rows : (length rows ≡ 1024 → ⊥) → checkRefusal table rows ring ≡ at 1 0
+  unfolding checkRefusal
+  refused-rows f = if-decides _ 1 (refusal table) (first-other 1024 64 rows ring f)
 
-  pub refused-ring : (length ring ≡ 64 → ⊥) → checkRefusal table rows ring ≡ one
-  unfolding checkRefusal refusedIf _orElse_
-  refused-ring f = rw (or-right (otherLength 1024 rows) (otherLength 64 ring) (other-length 64 ring f), checkRefusal)
+  pub refused-ring : (length ring ≡ 64 → ⊥) → checkRefusal table rows ring ≡ at 1 0
+  unfolding checkRefusal
+  refused-ring f = if-decides _ 1 (refusal table) (second-other 1024 64 rows ring f)
 
   pub lent-right : length rows ≡ 1024 → length ring ≡ 64 → checkRefusal table rows ring ≡ refusal table
-  unfolding checkRefusal refusedIf _orElse_
-  lent-right d e =
-      rw (neither (otherLength 1024 rows) (otherLength 64 ring) (same-length 1024 rows d) (same-length 64 ring e), checkRefusal)
+  unfolding checkRefusal
+  lent-right d e = if-passes _ 1 (refusal table) (both-same 1024 64 rows ring d e)
+
+module _ (table heard : List ℕ) (p : Pair) where
+  pub step-refused-length : (length heard ≡ 4096 → ⊥) → stepRefusal table heard p ≡ at 1 0
+  unfolding stepRefusal
+  step-refused-length f = if-decides _ 1 _ (other-length 4096 heard f)
+
+  module _ (long : length heard ≡ 4096) where
+    pub step-refused-table : (r : Refusal) → refusal table ≡ some r → stepRefusal table heard p ≡ some r
+    unfolding stepRefusal
+    step-refused-table r e = table-decides _ (refusal table) _ _ (same-length 4096 heard long) r e
+
+    module _ (accepted : refusal table ≡ none) where
+      pub step-refused-heard : (k : ℕ) → heardFault (pathsOf table) heard ≡ some k → stepRefusal table heard p ≡ at 12 k
+      unfolding stepRefusal
+      step-refused-heard k e = state-decides _ (refusal table) _ _ (same-length 4096 heard long) k accepted e
+
+      module _ (valid : heardFault (pathsOf table) heard ≡ none) where
+        by-pair : stepRefusal table heard p ≡ refusedAt (firstBadPair (pathsOf table) (p ∷ [])) 14
+        unfolding stepRefusal
+        by-pair = rest-decides _ (refusal table) _ _ (same-length 4096 heard long) accepted valid
+
+        pub step-refused-pair : listens (pathsOf table) (p .listener) (p .speaker) ≡ false → stepRefusal table heard p ≡ at 14 0
+        unfolding firstBadPair firstIn refusedAt
+        step-refused-pair e = by-pair ∙ rw (e, firstIn, refusedAt)
+
+        pub step-accepted : listens (pathsOf table) (p .listener) (p .speaker) ≡ true → stepRefusal table heard p ≡ none
+        unfolding firstBadPair firstIn refusedAt
+        step-accepted e = by-pair ∙ rw (e, firstIn, refusedAt)
+
+module _ (table heard s : List ℕ) (sums : List ℤ) where
+  pub run-refused-length : (length heard ≡ 4096 → ⊥) → runRefusal table heard s sums ≡ at 1 0
+  unfolding runRefusal
+  run-refused-length f = if-decides _ 1 _ (first-other 4096 64 heard sums f)
+
+  pub run-refused-sums : (length sums ≡ 64 → ⊥) → runRefusal table heard s sums ≡ at 1 0
+  unfolding runRefusal
+  run-refused-sums f = if-decides _ 1 _ (second-other 4096 64 heard sums f)
+
+  module _ (long : length heard ≡ 4096) (longSums : length sums ≡ 64) where
+    pub run-refused-table : (r : Refusal) → refusal table ≡ some r → runRefusal table heard s sums ≡ some r
+    unfolding runRefusal
+    run-refused-table r e = table-decides _ (refusal table) _ _ (both-same 4096 64 heard sums long longSums) r e
+
+    module _ (accepted : refusal table ≡ none) where
+      pub run-refused-heard : (k : ℕ) → heardFault (pathsOf table) heard ≡ some k → runRefusal table heard s sums ≡ at 12 k
+      unfolding runRefusal
+      run-refused-heard k e = state-decides _ (refusal table) _ _ (both-same 4096 64 heard sums long longSums) k accepted e
+
+      module _ (valid : heardFault (pathsOf table) heard ≡ none) where
+        by-schedule : runRefusal table heard s sums
+            ≡ refusedIf (scheduleBad s) 13 orElse refusedAt (firstBadPair (pathsOf table) (pairsIn s)) 14
+        unfolding runRefusal
+        by-schedule = rest-decides _ (refusal table) _ _ (both-same 4096 64 heard sums long longSums) accepted valid
+
+        pub run-refused-schedule : scheduleBad s ≡ true → runRefusal table heard s sums ≡ at 13 0
+        run-refused-schedule e = by-schedule ∙ if-decides _ 13 _ e
+
+        module _ (whole : scheduleBad s ≡ false) where
+          pub run-refused-pair : (k : ℕ) → firstBadPair (pathsOf table) (pairsIn s) ≡ some k → runRefusal table heard s sums ≡ at 14 k
+          unfolding refusedAt
+          run-refused-pair k e = by-schedule ∙ if-passes _ 13 _ whole ∙ rw e
+
+          pub run-accepted : firstBadPair (pathsOf table) (pairsIn s) ≡ none → runRefusal table heard s sums ≡ none
+          unfolding refusedAt
+          run-accepted e = by-schedule ∙ if-passes _ 13 _ whole ∙ rw e

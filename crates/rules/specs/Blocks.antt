@@ -14,9 +14,9 @@ use Rattle.lists.specs.SearchLaws.{none-below}
 use Rattle.lists.specs.ListLaws.{differs}
 use Rattle.lists.specs.FillLaws.{tabulate-at, tabulate-length}
 use Rattle.lists.specs.RangeLaws.{those-range, map-at}
-use Rattle.rules.specs.Table.{records, rankAt, pathAt, ownerAt, owned, pathsBelow, pathsOf}
+use Rattle.rules.specs.Table.{recordAt, records, rankAt, pathAt, ownerAt, owned, pathsBelow, pathsOf}
 use Rattle.rules.specs.Refusals.{refusal, pathBad}
-use Rattle.rules.specs.TableLaws.{Block, block}
+use Rattle.rules.specs.TableLaws.{Block, block, record-past, path-short}
 use Rattle.rules.specs.Accepted.{accepted, orderly}
 
 module _ (t : List ℕ) (e : refusal t ≡ none) where
@@ -137,6 +137,16 @@ pub adjacent-refused : (t : List ℕ) (i j : ℕ)
 adjacent-refused t i j l h o r e =
     omega (arith, ranks-rise t e i j (omega arith) h o, block t (records t) (orderly t e) i (omega arith) .least)
 
+-- an accepted table has at most 1,008 records, so none has the number of an empty slot
+module _ (t : List ℕ) (e : refusal t ≡ none) where
+  pub few-records : records t ≤ 1008
+  unfolding records
+  few-records = let a = accepted t e in omega (arith, a .short)
+
+  pub no-path : pathAt t 65535 ≡ []
+  unfolding records
+  no-path = sym (path-short [] (recordAt t 65535) (record-past t 65535 (omega (arith, few-records))) (omega arith))
+
 -- the records of an owner as a list
 
 module _ (t : List ℕ) (e : refusal t ≡ none) (v : ℕ) where
@@ -154,6 +164,12 @@ module _ (t : List ℕ) (e : refusal t ≡ none) (v : ℕ) where
 
   pub owned-at : (k : ℕ) → k < here .size → getD (owned t (records t) v) k 0 ≡ here .start + k
   owned-at k l = ap (λ (o : List ℕ). getD o k 0) owned-block ∙ tabulate-at (λ j. here .start + j) (here .size) k 0 l
+
+  pub owned-few : length (owned t (records t) v) ≤ 16
+  owned-few = omega (arith, owned-length, here .most)
+
+  pub owned-below : (k : ℕ) → k < length (owned t (records t) v) → getD (owned t (records t) v) k 0 < records t
+  owned-below k h = let l : k < here .size = omega (arith, owned-length) in omega (arith, owned-at k l, here .within)
 
   -- ranks are 1 to n for each owner
   pub ranks-count : (k : ℕ) → k < length (owned t (records t) v) → rankAt t (getD (owned t (records t) v) k 0) ≡ suc k

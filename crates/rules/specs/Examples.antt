@@ -16,7 +16,7 @@ use Rattle.rules.specs.Refusals.{_orElse_, hopsBad, vertexBad, unusedOf,
 use Rattle.rules.specs.Greedy.{isSettled, compatible, atStart, best, judged, stage, settledList, settled, enters, quiet, stageCount, stageOf, stuckIn, follows, fromVertex, beforeVertex, closedPart, lowestOf, turned, ringFrom}
 use Rattle.rules.specs.Stable.{extends, bestGiven}
 use Rattle.rules.specs.Report.{Report, placeIn, rankIn, rowBytes, row, report}
-use Rattle.rules.specs.Machine.{Pair, offsetOf, speaks, byteFor, pathFor, badByte, heardFault, lastHeard, choice, step, standingOf, standing, movement}
+use Rattle.rules.specs.Machine.{Pair, offsetOf, speaks, byteFor, pathFor, badAt, badByte, heardFault, lastHeard, choice, step, standingOf, standing, movement}
 use Rattle.rules.specs.Run.{Tally, pairsIn, isUp, isDown, more, listeningOffsets, closes, begun, activated, run}
 use Rattle.rules.specs.Answers.{otherLength, scheduleBad, firstBadPair, runRefusal}
 
@@ -189,7 +189,7 @@ unfolding refusedIf refusedAt _orElse_ otherLength scheduleBad firstBadPair runR
     unusedOf fillerBad twice twiceBad lastBad ownerBad rankDue rankBad pathBad inRecord rule recordRules firstBroken
     fault faulty firstBad badRecord tooLong ragged refusal isSettled compatible atStart best judged stage settledList settled
     enters quiet stageCount stageOf stuckIn follows fromVertex beforeVertex closedPart lowestOf turned ringFrom
-    extends bestGiven placeIn rankIn rowBytes row report offsetOf speaks byteFor pathFor badByte heardFault lastHeard
+    extends bestGiven placeIn rankIn rowBytes row report offsetOf speaks byteFor pathFor badAt badByte heardFault lastHeard
     choice step standingOf standing movement pairsIn isUp isDown more listeningOffsets closes begun activated run
     recordBytes blockBytes tableBytes vertices lineOf checkedOf movements ranOf outcome table3 table7 empty direct
     disagree threeRing shortcut silent chain firstMoves withdrawn heardAgain blocksApart blocksAdjacent examples

@@ -5,6 +5,7 @@ pub mod Stable
 pub mod Report
 pub mod Machine
 pub mod Run
+pub mod Rounds
 pub mod Refusals
 pub mod Answers
 pub mod Text
@@ -27,5 +28,7 @@ pub mod RingLaws
 pub mod ReportLaws
 pub mod MachineLaws
 pub mod RunLaws
+pub mod RoundLaws
+pub mod ScheduleLaws
 pub mod AnswerLaws
 pub mod TextLaws

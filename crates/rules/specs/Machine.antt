@@ -26,6 +26,11 @@ unfoldable pub standingOf : ℕ → ℕ
 standingOf zero = 0
 standingOf (suc r) = 16 - r
 
+-- "It is valid if every byte not at a listening pair is 0, and every other is at most the number of u's records (at most 1 for
+-- u = 0).": a bad byte, by which offsets listen and how many paths each vertex can speak of
+unfoldable pub badAt : (ℕ → Bool) → (ℕ → ℕ) → ℕ → ℕ → Bool
+badAt listening most k b = elim (eqb b 0) [ true ↦ false | false ↦ not (listening k) || ltb (most (k % 64)) b ]
+
 module _ (paths : ℕ → List Path) where
   -- what u can speak of: its paths, best first; "for u = 0 the value 1 means (0)"
   unfoldable pub speaks : ℕ → List Path
@@ -38,10 +43,9 @@ module _ (paths : ℕ → List Path) where
   unfoldable pub pathFor : ℕ → ℕ → Path
   pathFor u b = getD ([] ∷ speaks u) b []
 
-  -- "It is valid if every byte not at a listening pair is 0, and every other is at most the number of u's records (at most 1 for
-  -- u = 0)."
+  -- a bad byte of a table
   unfoldable pub badByte : ℕ → ℕ → Bool
-  badByte k b = elim (eqb b 0) [ true ↦ false | false ↦ not (listensAt paths k) || ltb (length (speaks (k % 64))) b ]
+  badByte = badAt (listensAt paths) (λ u. length (speaks u))
 
   -- the lowest bad offset
   unfoldable pub heardFault : List ℕ → Option ℕ

@@ -18,7 +18,7 @@ use Rattle.lists.specs.ListLaws.{first-in-none, all-fail-in, some-at, twice-apa
 use Rattle.rules.specs.Table.{Path, nextHop, rest, listens, listensAt}
 use Rattle.rules.specs.Stable.{extends, bestGiven}
 use Rattle.rules.specs.Report.{rankIn}
-use Rattle.rules.specs.Machine.{Pair, offsetOf, speaks, byteFor, pathFor, badByte, heardFault, lastHeard, choice, step, standingOf, standing, movement}
+use Rattle.rules.specs.Machine.{Pair, offsetOf, speaks, byteFor, pathFor, badAt, badByte, heardFault, lastHeard, choice, step, standingOf, standing, movement}
 use Rattle.rules.specs.Shape.{Permitted, Shaped}
 use Rattle.rules.specs.PathLaws.{Stands, first-among, first-same, place-tells, place-nil, place-most, place-absent}
 
@@ -29,6 +29,11 @@ pub best-same : (paths : ℕ → List Path) (f g : ℕ → Path) (v : ℕ)
 unfolding bestGiven extends
 best-same paths f g v e =
     first-same (extends f) (extends g) (paths v) (λ k h. ap (same (rest (getD (paths v) k []))) (e k h))
+
+-- whether the offset listens and how many paths its speaker has decide a bad byte
+pub bad-same : (f g : ℕ → Bool) (m n : ℕ → ℕ) (k b : ℕ) → f k ≡ g k → m (k % 64) ≡ n (k % 64) → badAt f m k b ≡ badAt g n k b
+unfolding badAt
+bad-same f g m n k b d e = by-test (eqb b 0) (λ q. rw (q, badAt)) (λ q. rw (q, badAt, d, e))
 
 module _ (paths : ℕ → List Path) where
   -- the destination speaks of (0)
@@ -132,7 +137,7 @@ module _ (paths : ℕ → List Path) where
 
   -- a byte is not bad where it is 0
   pub byte-zero : (k : ℕ) → badByte paths k 0 ≡ false
-  unfolding badByte
+  unfolding badByte badAt
   byte-zero k = refl
 
   -- a byte is not bad where the pair listens and the speaker has that many paths
@@ -140,20 +145,20 @@ module _ (paths : ℕ → List Path) where
       → listens paths (k / 64) (k % 64) ≡ true
       → b ≤ length (speaks paths (k % 64))
       → badByte paths k b ≡ false
-  unfolding badByte listensAt
+  unfolding badByte badAt listensAt
   byte-good k b l h =
-      by-test (eqb b 0) (λ q. rw (q, badByte)) (λ q. rw (q, badByte, l) (le-ltb (length (speaks paths (k % 64))) b h))
+      by-test (eqb b 0) (λ q. rw (q, badByte, badAt)) (λ q. rw (q, badByte, badAt, l) (le-ltb (length (speaks paths (k % 64))) b h))
 
   -- and nowhere else
   pub byte-fits : (k b : ℕ)
       → badByte paths k b ≡ false
       → b ≢ 0
       → (listens paths (k / 64) (k % 64) ≡ true) × (b ≤ length (speaks paths (k % 64)))
-  unfolding badByte listensAt
+  unfolding badByte badAt listensAt
   byte-fits k b e h =
       let heard = listens paths (k / 64) (k % 64) in
       let most = length (speaks paths (k % 64)) in
-      let r = or-none (not heard) (ltb most b) (rw (ne-eqb b 0 h, badByte) at e) in
+      let r = or-none (not heard) (ltb most b) (rw (ne-eqb b 0 h, badByte, badAt) at e) in
       (not-false heard (r .0), ltb-false most b (r .1))
 
   -- at a listening pair the byte for any path is not bad

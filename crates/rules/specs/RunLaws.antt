@@ -1,21 +1,21 @@
 -- Laws of the run: runs one after the other, the counts, what an accepted run keeps, and that the movements telescope.
 use mathlib.Core.Path.{_≡_, refl, sym, ap, _∙_}
 use mathlib.Core.Logic.{_≢_}
-use mathlib.Core.Bool.{Bool, true, not}
+use mathlib.Core.Bool.{Bool, true, false, not}
 use mathlib.Core.List.{List, _++_}
 use mathlib.Core.Option.{none}
 use Prim.Native.Nat.{ℕ, zero, suc, _+_, _<_, _≤_}
 use native.Mathlib.Omega.{arith}
-use lib.ListN.{length, getD, length-append, length-set, length-replicate}
-use lib.Seq.{getD-set-same, getD-set-other}
-use lib.IntN.{ℤ, pos, negsuc, _+ℤ_, _-ℤ_, +ℤ-idl, +ℤ-negℤ-cancel}
+use lib.ListN.{length, getD, set, length-set, length-replicate}
+use lib.Seq.{set-out, getD-set-same, getD-set-other}
+use lib.IntN.{ℤ, pos, negsuc, _+ℤ_, _-ℤ_, +ℤ-idl, +ℤ-idr, +ℤ-assoc, +ℤ-negℤ-cancel}
 use borrow.Author.Tests.{not-false}
 use Rattle.lists.specs.Search.{same}
 use Rattle.lists.specs.ListLaws.{first-in-none}
 use Rattle.lists.specs.FillLaws.{alike-at}
 use Rattle.lists.specs.Fold.{foldLeft}
-use Rattle.lists.specs.FoldLaws.{fold-append, fold-keeps, fold-keeps-of, fold-part, fold-grows}
-use Rattle.lists.specs.Tests.{by-test, by-equal}
+use Rattle.lists.specs.FoldLaws.{fold-append, fold-keeps, fold-keeps-of, fold-part, fold-grows, fold-alike}
+use Rattle.lists.specs.Tests.{by-test, by-equal, by-less}
 use Rattle.lists.specs.NumberLaws.{telescope}
 use Rattle.rules.specs.Table.{Path, listens}
 use Rattle.rules.specs.Machine.{Pair, heardFault, choice, step, standing, movement}
@@ -46,6 +46,59 @@ more-both (negsuc n) a b = omega arith
 pub record Counted (y : Tally) : Type 0 where
   pub moves : y .ups + y .downs ≤ y .steps
   pub change : y .lastChange ≤ y .steps
+
+-- one more where the test holds, on top of what there was before
+more-on : (b : Bool) (a y z : ℕ) → y ≡ a + z → more b y ≡ a + more b z
+unfolding more
+more-on true a y z e = omega arith
+more-on false a y z e = e
+
+-- the last change after a step, which leaves it where the choice is the same
+abbrev latest : Bool → ℕ → ℕ → ℕ
+latest kept old now = elim kept [ true ↦ old | false ↦ now ]
+
+-- one step more, counted on from so many steps
+
+module _ (steps x y z : ℕ) where
+  unchanged-on : (kept : Bool) (n : ℕ) → (z ≡ 0 → y ≡ x) → latest kept z (suc n) ≡ 0 → latest kept y (suc (steps + n)) ≡ x
+  unchanged-on true n f e = f e
+  unchanged-on false n f e = absurd (omega arith)
+
+  changed-on : (kept : Bool) (n : ℕ)
+      → (z ≢ 0 → y ≡ steps + z)
+      → latest kept z (suc n) ≢ 0
+      → latest kept y (suc (steps + n)) ≡ steps + latest kept z (suc n)
+  changed-on true n f e = f e
+  changed-on false n f e = omega arith
+
+-- adding at one place of two lists, the one of which is the other and a third added up, keeps that
+sums-on : (a b c : List ℤ) (i : ℕ) (m : ℤ)
+    → length b ≡ length c
+    → ((v : ℕ) → getD b v (pos 0) ≡ getD a v (pos 0) +ℤ getD c v (pos 0))
+    → (v : ℕ)
+    → getD (set b i (getD b i (pos 0) +ℤ m)) v (pos 0) ≡ getD a v (pos 0) +ℤ getD (set c i (getD c i (pos 0) +ℤ m)) v (pos 0)
+sums-on a b c i m n e v =
+    let over : ℤ → ℤ = λ x. getD a v (pos 0) +ℤ x in
+    let new = getD b i (pos 0) +ℤ m in
+    let late = getD c i (pos 0) +ℤ m in
+    by-less i (length b)
+    (λ h. by-equal v i
+    (λ q. rw q (getD-set-same b i new (pos 0) h ∙ ap (λ x. x +ℤ m) (e i) ∙ +ℤ-assoc (getD a i (pos 0)) (getD c i (pos 0)) m
+    ∙ sym (ap (λ x. getD a i (pos 0) +ℤ x) (getD-set-same c i late (pos 0) (omega arith)))))
+    (λ q. getD-set-other b i v new (pos 0) q ∙ e v ∙ sym (ap over (getD-set-other c i v late (pos 0) q))))
+    (λ h. ap (λ l. getD l v (pos 0)) (set-out b i new h) ∙ e v ∙ sym (ap (λ l. over (getD l v (pos 0))) (set-out c i late (omega arith))))
+
+-- The tally y is x, and z counted on from there.
+pub record Joined (x z y : Tally) : Type 0 where
+  pub heard : y .heard ≡ z .heard
+  pub steps : y .steps ≡ x .steps + z .steps
+  pub ups : y .ups ≡ x .ups + z .ups
+  pub downs : y .downs ≡ x .downs + z .downs
+  -- the last change is that of z, counted on, or where there is none that of x
+  pub unchanged : z .lastChange ≡ 0 → y .lastChange ≡ x .lastChange
+  pub changed : z .lastChange ≢ 0 → y .lastChange ≡ x .steps + z .lastChange
+  pub size : length (y .sums) ≡ length (z .sums)
+  pub sum : (v : ℕ) → getD (y .sums) v (pos 0) ≡ getD (x .sums) v (pos 0) +ℤ getD (z .sums) v (pos 0)
 
 module _ (paths : ℕ → List Path) where
   -- from any tally, the heard state goes by its steps alone
@@ -78,23 +131,10 @@ module _ (paths : ℕ → List Path) where
   unfolding run begun
   run-heard heard s = tally-heard (listeningOffsets paths) (begun heard) s
 
-  -- a run over two schedules ends where a run over the second ends from where the first ended
-  pub run-append : (heard : List ℕ) (s t : List Pair)
-      → run paths heard (s ++ t) .heard ≡ run paths (run paths heard s .heard) t .heard
-  run-append heard s t =
-      run-heard heard (s ++ t) ∙ fold-append (step paths) heard s t
-      ∙ sym (run-heard (run paths heard s .heard) t ∙ ap (λ x. foldLeft (step paths) x t) (run-heard heard s))
-
   -- the run's steps are its pairs
   pub run-steps : (heard : List ℕ) (s : List Pair) → run paths heard s .steps ≡ length s
   unfolding run begun
   run-steps heard s = omega (arith, tally-steps (listeningOffsets paths) (begun heard) s)
-
-  -- the steps of two runs add
-  pub run-steps-append : (heard : List ℕ) (s t : List Pair)
-      → run paths heard (s ++ t) .steps ≡ run paths heard s .steps + run paths (run paths heard s .heard) t .steps
-  run-steps-append heard s t =
-      omega (arith, run-steps heard (s ++ t), run-steps heard s, run-steps (run paths heard s .heard) t, length-append s t)
 
   -- the run's ups and downs are at most its steps, and so is the last change
   pub run-counts : (heard : List ℕ) (s : List Pair) → Counted (run paths heard s)
@@ -114,6 +154,51 @@ module _ (paths : ℕ → List Path) where
       fold-keeps (activated paths (listeningOffsets paths)) (λ y. length (y .sums) ≡ 64)
       (λ y p e. length-set (y .sums) (p .listener) (getD (y .sums) (p .listener) (pos 0) +ℤ movement paths (y .heard) p) ∙ e)
       (begun heard) s (length-replicate 64 (pos 0))
+
+  -- one activation more keeps what is joined
+  joined-on : (pairs : List ℕ) (x y z : Tally) (p : Pair) → Joined x z y → Joined x (activated paths pairs z p) (activated paths pairs y p)
+  unfolding activated
+  joined-on pairs x y z p j =
+      let i = p .listener in
+      let kept = same (choice paths (z .heard) i) (choice paths (step paths (z .heard) p) i) in
+      record {
+        heard = ap (λ h. step paths h p) (j .heard);
+        steps = omega (arith, j .steps);
+        ups = rw (j .heard) (more-on (isUp (movement paths (z .heard) p)) (x .ups) (y .ups) (z .ups) (j .ups));
+        downs = rw (j .heard) (more-on (isDown (movement paths (z .heard) p)) (x .downs) (y .downs) (z .downs) (j .downs));
+        unchanged = rw (j .heard, j .steps)
+            (unchanged-on (x .steps) (x .lastChange) (y .lastChange) (z .lastChange) kept (z .steps) (j .unchanged));
+        changed = rw (j .heard, j .steps)
+            (changed-on (x .steps) (x .lastChange) (y .lastChange) (z .lastChange) kept (z .steps) (j .changed));
+        size = length-set (y .sums) i _ ∙ j .size ∙ sym (length-set (z .sums) i _);
+        sum = rw (j .heard) (sums-on (x .sums) (y .sums) (z .sums) i (movement paths (z .heard) p) (j .size) (j .sum));
+      }
+
+  -- where nothing is counted on yet
+  joined-start : (x : Tally) → length (x .sums) ≡ 64 → Joined x (begun (x .heard)) x
+  unfolding begun
+  joined-start x e =
+      record {
+        heard = refl;
+        steps = omega arith;
+        ups = omega arith;
+        downs = omega arith;
+        unchanged = λ q. refl;
+        changed = λ q. absurd (q refl);
+        size = e ∙ sym (length-replicate 64 (pos 0));
+        sum = λ v. let last = getD (x .sums) v (pos 0) in sym (ap (λ c. last +ℤ c) (alike-at 64 v (pos 0)) ∙ +ℤ-idr last);
+      }
+
+  -- a run over two schedules is a run over the first, and on from where it ended over the second
+  pub run-append : (heard : List ℕ) (s t : List Pair)
+      → Joined (run paths heard s) (run paths (run paths heard s .heard) t) (run paths heard (s ++ t))
+  unfolding run begun
+  run-append heard s t =
+      let pairs = listeningOffsets paths in
+      let x = foldLeft (activated paths pairs) (begun heard) s in
+      rw (fold-append (activated paths pairs) (begun heard) s t)
+      (fold-alike (activated paths pairs) (λ y z. Joined x z y) (λ y z p j. joined-on pairs x y z p j) x (begun (x .heard)) t
+      (joined-start x (run-sums heard s)))
 
   -- a vertex that never listened has the sum 0
   pub run-silent : (heard : List ℕ) (s : List Pair) (d : Pair) (v : ℕ)

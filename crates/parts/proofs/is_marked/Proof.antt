@@ -1,11 +1,11 @@
--- `ring::is_marked` meets its contract: past the end there is no mark.
+-- `parts::is_marked` meets its contract: past the end there is no mark.
 -- Assumes nothing.
 use mathlib.Core.Path.{sym}
 use mathlib.Core.Bool.{false}
 use borrow.Author.Needs.{needs}
 use lib.ListN.{List·getD-eq-default}
-use Rattle.ring.proofs.is_marked.Statement.{statement}
-use Rattle.ring.proofs.is_marked.Tie as tie
+use Rattle.parts.proofs.is_marked.Statement.{statement}
+use Rattle.parts.proofs.is_marked.Tie as tie
 
 returns : tie.Need-returns
 returns c = sym (List·getD-eq-default (c .before .args .marks .now) false (c .if1 .taken))

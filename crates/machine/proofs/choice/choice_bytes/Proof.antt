@@ -1,0 +1,87 @@
+-- `machine::choice::choice_bytes` meets its contract: each vertex has its byte.
+-- Assumes nothing.
+use mathlib.Core.Path.{_≡_, refl, sym, ap, _∙_}
+use Prim.Native.Nat.{ℕ, _≤_, _-_}
+use native.Mathlib.Omega.{arith}
+use lib.ListN.{length, take, length-set, length-replicate}
+use Rattle.lists.specs.Fill.{tabulate}
+use Rattle.lists.specs.FillLaws.{tabulate-none, tabulate-at, fill-more, fill-end}
+use Rattle.rules.specs.Table.{pathsOf}
+use Rattle.rules.specs.Machine.{byteFor, choice, choiceBytes}
+use Rattle.machine.specs.Asked.{Slots, askedRow}
+use Rattle.machine.specs.AskedLaws.{slot-row, asked-at}
+use Rattle.machine.proofs.choice.choice_bytes.Statement.{statement}
+use Rattle.machine.proofs.choice.choice_bytes.Tie as tie
+
+abbrev Inv-loop : tie.InvT-loop
+Inv-loop t heard slots asked bytes₀ v₀ bytes v =
+    Slots t slots
+    × (asked ≡ tabulate (askedRow (pathsOf t)) 64)
+    × (v ≤ 64)
+    × (length bytes ≡ 64)
+    × (take v bytes ≡ tabulate (λ u. byteFor (pathsOf t) u (choice (pathsOf t) heard u)) v)
+
+abbrev μ-loop : tie.MeasureT-loop
+μ-loop t heard slots asked bytes₀ v₀ bytes v = 64 - v
+
+loop-holds : tie.Need-loop-holds Inv-loop μ-loop
+loop-holds c = let a = c .before .before in (a .pre .0, a .pre .1, omega arith, length-replicate {A = ℕ} 64 0, sym (tabulate-none _))
+
+mul-choice-byte : tie.Need-mul-choice-byte Inv-loop μ-loop
+mul-choice-byte c = omega arith
+
+array-copy-out-choice-byte : tie.Need-array-copy-out-choice-byte Inv-loop μ-loop
+array-copy-out-choice-byte c = omega arith
+
+mul-choice-byte-2 : tie.Need-mul-choice-byte-2 Inv-loop μ-loop
+mul-choice-byte-2 c = omega arith
+
+array-copy-out-choice-byte-2 : tie.Need-array-copy-out-choice-byte-2 Inv-loop μ-loop
+array-copy-out-choice-byte-2 c = omega arith
+
+choice-byte-requires : tie.Need-choice-byte-requires Inv-loop μ-loop
+choice-byte-requires c κs =
+    let i = c .before .before .before .loop .inv in
+    (omega arith, slot-row _ _ _ (i .0) (omega arith), asked-at _ _ _ (i .1) (omega arith))
+
+array-write-bytes : tie.Need-array-write-bytes Inv-loop μ-loop
+array-write-bytes c = omega arith
+
+add-v : tie.Need-add-v Inv-loop μ-loop
+add-v c = omega arith
+
+loop-less : tie.Need-loop-less Inv-loop μ-loop
+loop-less c = omega arith
+
+loop-again : tie.Need-loop-again Inv-loop μ-loop
+loop-again c =
+    let a = c .before .before .before .before in
+    let i = a .loop .inv in (
+      i .0,
+      i .1,
+      omega arith,
+      length-set (a .loop .bytes) (a .loop .v) _ ∙ i .3,
+      fill-more _ _ _ (a .loop .v) _ (i .4) (omega arith) refl (c .choice-byte .ensures),
+    )
+
+returns : tie.Need-returns Inv-loop μ-loop
+unfolding choiceBytes
+returns c = let i = c .before .loop .inv in fill-end _ _ _ _ (i .4) (sym (i .3)) (omega arith)
+
+pub choice-bytes-spec : {M : Type 1} → statement M
+choice-bytes-spec =
+    tie.close
+    (tie.spec
+    Inv-loop
+    μ-loop
+    loop-holds
+    mul-choice-byte
+    array-copy-out-choice-byte
+    mul-choice-byte-2
+    array-copy-out-choice-byte-2
+    choice-byte-requires
+    array-write-bytes
+    add-v
+    loop-less
+    loop-again
+    returns)

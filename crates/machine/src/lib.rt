@@ -1,0 +1,3 @@
+// The machine.
+mod asked;
+mod choice;

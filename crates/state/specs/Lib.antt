@@ -1,0 +1,5 @@
+-- What is judged before the first store.
+pub mod Judged
+-- The laws.
+pub mod JudgedLaws
+pub mod OneResult
