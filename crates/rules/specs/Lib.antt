@@ -32,3 +32,4 @@ pub mod RoundLaws
 pub mod ScheduleLaws
 pub mod AnswerLaws
 pub mod TextLaws
+pub mod RunTextLaws

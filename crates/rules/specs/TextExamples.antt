@@ -13,7 +13,7 @@ use Rattle.rules.specs.Refusals.{_orElse_, hopsBad, vertexBad, unusedOf,
 use Rattle.rules.specs.Greedy.{isSettled, compatible, atStart, best, judged, stage, settledList, settled, enters, quiet, stageCount, stageOf, stuckIn, follows, fromVertex, beforeVertex, closedPart, lowestOf, turned, ringFrom}
 use Rattle.rules.specs.Stable.{extends, bestGiven}
 use Rattle.rules.specs.Report.{placeIn, rankIn, rowBytes, row, report}
-use Rattle.rules.specs.Machine.{offsetOf, speaks, byteFor, pathFor, badByte, heardFault, lastHeard, choice, step, standingOf, standing, movement}
+use Rattle.rules.specs.Machine.{offsetOf, speaks, byteFor, pathFor, badAt, badByte, heardFault, lastHeard, choice, step, standingOf, standing, movement}
 use Rattle.rules.specs.Run.{pairsIn, isUp, isDown, more, listeningOffsets, closes, begun, activated, run}
 use Rattle.rules.specs.Answers.{verdictOf, verdict, otherLength, scheduleBad, firstBadPair, runRefusal}
 use Rattle.rules.specs.Text.{codes, digitsIn, decimal, labelled, spaced, routeWords, placeWords, refusedLine, verdictLine, stageWords, rowPath, rowLine, rowAt, rowLines, ringLine, textOf, checkText}
@@ -126,7 +126,7 @@ unfolding refusedIf _orElse_ outside firstFrom anyBelow countBelow thoseBelow an
     stage settledList settled enters quiet stageCount stageOf stuckIn follows fromVertex beforeVertex closedPart lowestOf
     turned ringFrom extends bestGiven placeIn rankIn rowBytes row report verdictOf verdict codes digitsIn decimal labelled spaced
     routeWords placeWords refusedLine verdictLine stageWords rowPath rowLine rowAt rowLines ringLine textOf checkText
-    refusedAt listens listensAt offsetOf speaks byteFor pathFor badByte heardFault lastHeard choice step standingOf standing
+    refusedAt listens listensAt offsetOf speaks byteFor pathFor badAt badByte heardFault lastHeard choice step standingOf standing
     movement pairsIn isUp isDown more listeningOffsets closes begun activated run otherLength scheduleBad firstBadPair runRefusal
     signed runLine vertexLine vertexLines runTextOf ranLine ranText printedText recordBytes blockBytes tableBytes table3 table7
     emptyText table5Text table6Text recordText raggedText case8Text case9Text pairText oddText runRecordText printed
