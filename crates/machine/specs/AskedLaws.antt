@@ -104,8 +104,8 @@ slot-row t slots v s h =
     let o = owned t (records t) v in
     let n : min (records t) 1008 ≡ records t = omega (arith, few-records t e) in
     let r : getD slots v [] ≡ padded 16 65535 o =
-        ap (λ (l : List (List ℕ)). getD l v []) (s .found ∙ ap (slotsOf t) n)
-        ∙ tabulate-at (λ w. padded 16 65535 (owned t (records t) w)) 64 v [] h in
+    ap (λ (l : List (List ℕ)). getD l v []) (s .found ∙ ap (slotsOf t) n)
+    ∙ tabulate-at (λ w. padded 16 65535 (owned t (records t) w)) 64 v [] h in
     record {
       accepted = e;
       held = ap (λ (l : List ℕ). map (pathAt t) (filled l)) (r ∙ padded-whole 65535 16 o (owned-few t e v))
@@ -202,8 +202,8 @@ module _ (t : List ℕ) (slots : List (List ℕ)) (v : ℕ) (asked : List ℕ) (
         let n : k ≡ length (map f ps) = sym (length-map ps f ∙ length-take-le k (paths v) (a .under)) in
         let m : take (k + 1) (paths v) ≡ ps ++ getD (paths v) k [] ∷ [] = rw add-one (take-suc (paths v) k [] (there .0)) in
         let y : b ≡ f (getD (paths v) k []) =
-            q ∙ own-byte (λ w. slotPaths t (getD slots u [])) paths u (rest p) (λ w. slot-row t slots u (a .all) (next-small u z) .held)
-            ∙ ap (λ w. byteFor paths w (rest p)) z ∙ ap (λ (w : Path). byteFor paths (nextHop w) (rest w)) (sym x) in
+        q ∙ own-byte (λ w. slotPaths t (getD slots u [])) paths u (rest p) (λ w. slot-row t slots u (a .all) (next-small u z) .held)
+        ∙ ap (λ w. byteFor paths w (rest p)) z ∙ ap (λ (w : Path). byteFor paths (nextHop w) (rest w)) (sym x) in
         record {
           all = a .all;
           vertex = a .vertex;

@@ -97,7 +97,7 @@ module _ (t row asked heard : List ℕ) (v : ℕ) (s : SlotRow t v row) (a : ask
       choice-hit f =
           let r = first-scanned t row hears k z (pathAt t (getD row k 0)) h e refl (sym slot-hears ∙ f) in
           let c : bestGiven paths (lastHeard paths heard v) v ≡ getD (paths v) k [] =
-              best-first ∙ r .1 ∙ ap (λ (l : List Path). getD l k []) (s .held) in
+          best-first ∙ r .1 ∙ ap (λ (l : List Path). getD l k []) (s .held) in
           sym (ap (rankIn paths v) c ∙ place-distinct (paths v) (shape .distinct v) k (slot-path .0))
 
 -- the byte of a choice

@@ -53,7 +53,7 @@ module _ (paths : ℕ → List Path) (present : ℕ → Bool) (shaped : Shaped p
   meant u zero r f e = absurd (f e)
   meant u (suc j) r f e =
       let h : j < length (speaks paths u) =
-          by-less j (length (speaks paths u)) (λ l. l) (λ l. absurd (f (e ∙ List·getD-eq-default (speaks paths u) [] l))) in
+      by-less j (length (speaks paths u)) (λ l. l) (λ l. absurd (f (e ∙ List·getD-eq-default (speaks paths u) [] l))) in
       ((λ z. omega arith), ap (λ q. placeIn q (speaks paths u)) e ∙ place-distinct (speaks paths u) (speaks-distinct u) j h)
 
   -- the rest of a path is what is heard exactly where the byte heard is the one asked for
@@ -73,7 +73,7 @@ module _ (paths : ℕ → List Path) (present : ℕ → Bool) (shaped : Shaped p
   pub asked-heard : (heard : List ℕ) (v k : ℕ)
       → k < length (paths v)
       → hearsByte (askedFor paths (getD (paths v) k [])) (getD heard (64 * v + nextHop (getD (paths v) k [])) 0)
-        ≡ extends (lastHeard paths heard v) (getD (paths v) k [])
+      ≡ extends (lastHeard paths heard v) (getD (paths v) k [])
   unfolding askedFor extends nextHop rest
   asked-heard heard v k h =
       let p = getD (paths v) k [] in

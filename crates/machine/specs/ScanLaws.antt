@@ -68,5 +68,5 @@ module _ (t row : List ℕ) (path : Path) (k : ℕ) (s : Scanned t row (same pat
   place-hit p h e q f =
       let r = paths-on t row k (omega (arith, s .size)) (s .under) e in
       let z = place-first path (slotPaths t row) k (r .0) (r .1 ∙ sym q ∙ sym (same-eq path p f))
-          (λ j l d. differs path (getD (slotPaths t row) j []) (s .failed j l) (sym d)) in
+      (λ j l d. differs path (getD (slotPaths t row) j []) (s .failed j l) (sym d)) in
       omega (arith, z)

@@ -78,7 +78,12 @@ pub(crate) fn choice_byte(t: &[u8], row: [u16; 16], asked: [u8; 16], heard: &[u8
 }
 
 // The bytes for the present choices of all vertices.
-pub(crate) fn choice_bytes(t: &[u8], slots: [[u16; 16]; 64], asked: [[u8; 16]; 64], heard: &[u8]) -> [u8; 64]
+pub(crate) fn choice_bytes(
+    t: &[u8],
+    slots: [[u16; 16]; 64],
+    asked: [[u8; 16]; 64],
+    heard: &[u8],
+) -> [u8; 64]
     requires { ⌜ Slots (now t) slots × (asked ≡ tabulate (askedRow (pathsOf (now t))) 64) ⌝ }
     ensures { λ r. ⌜ r ≡ choiceBytes (pathsOf (now (t .entry))) (now (heard .entry)) ⌝ }
 {

@@ -81,13 +81,26 @@ fn put_vertices(text: &mut [u8], at: usize, table: &[u8], choices: &[u8], sums: 
         }
         let rank = byte_at(choices, v);
         let i = ranked_record(slots[v], rank);
-        next = put_vertex(text, next, v, sum_at(sums, v), rank, path_at(table, i as usize));
+        next = put_vertex(
+            text,
+            next,
+            v,
+            sum_at(sums, v),
+            rank,
+            path_at(table, i as usize),
+        );
     }
     next
 }
 
 // Lays the text of a run's answer over the front of a buffer, as far as it fits, and answers how many bytes were laid.
-pub fn print_run(answer: RunAnswer, table: &[u8], choices: &[u8], sums: &[i32], text: &mut [u8]) -> usize
+pub fn print_run(
+    answer: RunAnswer,
+    table: &[u8],
+    choices: &[u8],
+    sums: &[i32],
+    text: &mut [u8],
+) -> usize
     ensures { λ r. ⌜ Laid 0 (runTextOf (runRefusalIn (answer .verdict)) (runNumbersIn answer) (vertexLines (present (now (table .entry))) (shownLine (now (table .entry)) (now (choices .entry)) (now (sums .entry))) 63)) (now (text .entry)) (now (text .exit)) r ⌝ }
 {
     let verdict = answer.verdict;

@@ -1,22 +1,21 @@
+-- `run_lines::sum_at` meets its contract: past the end is 0.
+-- Assumes nothing.
+use mathlib.Core.Path.{sym}
 use borrow.Author.Needs.{needs}
+use lib.IntN.{pos}
+use lib.ListN.{List·getD-eq-default}
 use Rattle.run_lines.proofs.sum_at.Statement.{statement}
 use Rattle.run_lines.proofs.sum_at.Tie as tie
-use Rattle.run_lines.proofs.sum_at.Reads as reads
-use Rattle.run_lines.proofs.sum_at.Lts as lts
 
--- src/lib.rt:40:9
 returns : tie.Need-returns
-returns c = ?
+returns c = sym (List·getD-eq-default (c .before .args .sums .now) (pos 0) (c .if1 .taken))
 
--- src/lib.rt:42:5
 mul-result : tie.Need-mul-result
 mul-result c = search needs
 
--- src/lib.rt:42:5
 shared-slice-copy-out-result : tie.Need-shared-slice-copy-out-result
 shared-slice-copy-out-result c = search needs
 
--- src/lib.rt:36:1
 returns-2 : tie.Need-returns-2
 returns-2 c = search needs
 
