@@ -49,11 +49,14 @@ ranLine t y v =
     let chosen = choice (pathsOf t) (y .heard) v in
     vertexLine v (getD (y .sums) v (pos 0)) (rankIn (pathsOf t) v chosen) chosen
 
--- What the run program prints for the bytes of a table and of a schedule: the run from all zeros, with sums of its own.
-unfoldable pub ranText : List ℕ → List ℕ → List ℕ
-ranText t s =
-    let zeros : List ℕ = replicate 4096 0 in
-    let y = run (pathsOf t) zeros (pairsIn s) in
-    runTextOf (runRefusal t zeros s (replicate 64 (pos 0)))
+-- the text of a run of a schedule's bytes over a table's, from a heard state and with lent sums
+unfoldable pub runText : List ℕ → List ℕ → List ℕ → List ℤ → List ℕ
+runText t heard s sums =
+    let y = run (pathsOf t) heard (pairsIn s) in
+    runTextOf (runRefusal t heard s sums)
     (y .steps ∷ y .ups ∷ y .downs ∷ y .lastChange ∷ y .rounds ∷ [])
     (vertexLines (present t) (ranLine t y) 63)
+
+-- What the run program prints: the run from all zeros, with sums of its own.
+unfoldable pub ranText : List ℕ → List ℕ → List ℕ
+ranText t s = runText t (replicate 4096 0) s (replicate 64 (pos 0))

@@ -17,7 +17,7 @@ use Rattle.rules.specs.Machine.{offsetOf, speaks, byteFor, pathFor, badA
 use Rattle.rules.specs.Run.{pairsIn, isUp, isDown, more, listeningOffsets, closes, begun, activated, run}
 use Rattle.rules.specs.Answers.{verdictOf, verdict, otherLength, scheduleBad, firstBadPair, runRefusal}
 use Rattle.rules.specs.Text.{codes, digitsIn, decimal, labelled, spaced, routeWords, placeWords, refusedLine, verdictLine, stageWords, rowPath, rowLine, rowAt, rowLines, ringLine, textOf, checkText}
-use Rattle.rules.specs.RunText.{signed, runLine, vertexLine, vertexLines, runTextOf, ranLine, ranText}
+use Rattle.rules.specs.RunText.{signed, runLine, vertexLine, vertexLines, runTextOf, ranLine, runText, ranText}
 use Rattle.rules.specs.Examples.{recordBytes, blockBytes, tableBytes, table3, table7}
 
 -- What is printed: the check of a table's bytes, or the run of a schedule's bytes over a table's.
@@ -128,6 +128,6 @@ unfolding refusedIf _orElse_ outside firstFrom anyBelow countBelow thoseBelow an
     routeWords placeWords refusedLine verdictLine stageWords rowPath rowLine rowAt rowLines ringLine textOf checkText
     refusedAt listens listensAt offsetOf speaks byteFor pathFor badAt badByte heardFault lastHeard choice step standingOf standing
     movement pairsIn isUp isDown more listeningOffsets closes begun activated run otherLength scheduleBad firstBadPair runRefusal
-    signed runLine vertexLine vertexLines runTextOf ranLine ranText printedText recordBytes blockBytes tableBytes table3 table7
+    signed runLine vertexLine vertexLines runTextOf ranLine runText ranText printedText recordBytes blockBytes tableBytes table3 table7
     emptyText table5Text table6Text recordText raggedText case8Text case9Text pairText oddText runRecordText printed
 worked-texts = refl

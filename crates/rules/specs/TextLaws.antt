@@ -93,12 +93,31 @@ pub decimal-most : (n : ℕ) → length (decimal n) ≤ 10
 unfolding decimal
 decimal-most n = digits-most 10 n
 
+-- a number has no more digits than it needs
+digits-few : (k j n : ℕ) → n < 10 ^ suc j → length (digitsIn k n) ≤ suc j
+digits-few zero j n h = omega (arith, ap length (digits-none n))
+digits-few (suc k) zero n h = let e : n / 10 ≡ 0 = omega (arith, pow-succ' 10 0) in omega (arith, ap length (digits-one k n e))
+digits-few (suc k) (suc j) n h =
+    by-equal (n / 10) 0
+    (λ e. omega (arith, ap length (digits-one k n e)))
+    (λ e. omega (arith, ap length (digits-more k n e), length-append (digitsIn k (n / 10)) ((48 + n % 10) ∷ []), digits-few k j (n / 10) (less-digits (suc j) n h)))
+
+pub decimal-few : (n : ℕ) → n < 100 → length (decimal n) ≤ 2
+unfolding decimal
+decimal-few n h = digits-few 10 1 n h
+
 -- numbers after spaces
 
 pub spaced-most : (ns : List ℕ) → length (spaced ns) ≤ 11 * length ns
 unfolding spaced labelled codes
 spaced-most [] = omega arith
 spaced-most (n ∷ ns) = omega (arith, length-append (decimal n) (spaced ns), decimal-most n, spaced-most ns)
+
+pub spaced-few : (ns : List ℕ) → ((k : ℕ) → k < length ns → getD ns k 0 < 100) → length (spaced ns) ≤ 3 * length ns
+unfolding spaced labelled codes
+spaced-few [] h = omega arith
+spaced-few (n ∷ ns) h =
+    omega (arith, length-append (decimal n) (spaced ns), decimal-few n (h 0 (omega arith)), spaced-few ns (λ k l. h (suc k) (omega arith)))
 
 spaced-append : (ns : List ℕ) (n : ℕ) → spaced (ns ++ n ∷ []) ≡ spaced ns ++ labelled " " n
 unfolding spaced
