@@ -10,7 +10,7 @@ use native.Mathlib.Numerals.{add-one}
 use lib.ListN.{length, getD, replicate, length-append, length-replicate}
 use lib.IntN.{ℤ, pos, negsuc}
 use Rattle.lists.specs.Fill.{blocks}
-use Rattle.lists.specs.FillLaws.{blocks-none, blocks-suc, blocks-most}
+use Rattle.lists.specs.FillLaws.{blocks-none, blocks-suc, blocks-ext, blocks-most}
 use Rattle.lists.specs.Tests.{by-test, by-option, none≢some}
 use Rattle.rules.specs.Table.{Path, pathsOf, present}
 use Rattle.rules.specs.Refusals.{Refusal, refusal}
@@ -51,6 +51,14 @@ module _ (isPresent : ℕ → Bool) (line : ℕ → List ℕ) where
   vertices-absent v h =
       let here : lineAt v ≡ [] = rw (h, lineAt) in
       sym (append-nil (vertexLines isPresent line v)) ∙ ap (λ (k : List ℕ). vertexLines isPresent line v ++ k) (sym here) ∙ vertices-more v
+
+-- lines that agree
+pub vertices-ext : (isPresent : ℕ → Bool) (f g : ℕ → List ℕ) (n : ℕ)
+    → ((k : ℕ) → k < n → f (k + 1) ≡ g (k + 1))
+    → vertexLines isPresent f n ≡ vertexLines isPresent g n
+unfolding vertexLines
+vertices-ext isPresent f g n e =
+    blocks-ext _ _ n (λ k h. ap (λ (l : List ℕ). elim (isPresent (k + 1)) [ true ↦ l | false ↦ [] ]) (e k h))
 
 -- how long each line is at most
 
