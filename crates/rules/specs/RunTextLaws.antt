@@ -2,9 +2,9 @@
 use mathlib.Core.Path.{_≡_, refl, sym, ap, _∙_}
 use mathlib.Core.Logic.{_≢_, _⊎_, inl, inr}
 use mathlib.Core.Bool.{Bool, true, false}
-use mathlib.Core.List.{List, [], _∷_, _++_, append-nil}
+use mathlib.Core.List.{List, [], _++_, append-nil}
 use mathlib.Core.Option.{Option, none, some}
-use Prim.Native.Nat.{ℕ, suc, _+_, _*_, _<_, _≤_}
+use Prim.Native.Nat.{ℕ, suc, _+_, _<_, _≤_}
 use native.Mathlib.Omega.{arith}
 use native.Mathlib.Numerals.{add-one}
 use lib.ListN.{length, getD, replicate, length-append, length-replicate}
@@ -14,11 +14,10 @@ use Rattle.lists.specs.FillLaws.{blocks-none, blocks-suc, blocks-ext, blocks-mo
 use Rattle.lists.specs.Tests.{by-test, by-option, none≢some}
 use Rattle.rules.specs.Table.{Path, pathsOf, present}
 use Rattle.rules.specs.Refusals.{Refusal, refusal}
-use Rattle.rules.specs.Report.{rankIn}
 use Rattle.rules.specs.Machine.{choice}
 use Rattle.rules.specs.Run.{Tally}
 use Rattle.rules.specs.Answers.{runRefusal}
-use Rattle.rules.specs.Text.{codes, decimal, labelled, spaced}
+use Rattle.rules.specs.Text.{codes, labelled, spaced}
 use Rattle.rules.specs.RunText.{signed, runLine, vertexLine, vertexLines, runTextOf, ranLine, runText, ranText}
 use Rattle.rules.specs.PathLaws.{Stands}
 use Rattle.rules.specs.ShapeLaws.{shaped}

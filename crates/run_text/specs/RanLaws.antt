@@ -1,5 +1,5 @@
 -- Laws of the run as text: what is laid is the text of the run from zeros, one result, and 8,192 bytes hold it.
-use mathlib.Core.Path.{_≡_, refl, sym, ap, _∙_}
+use mathlib.Core.Path.{_≡_, sym, ap, _∙_}
 use mathlib.Core.Logic.{_≢_}
 use mathlib.Core.List.{List, [], _∷_}
 use mathlib.Core.Option.{Option, none, some}
@@ -10,7 +10,7 @@ use lib.IntN.{ℤ, pos}
 use Rattle.lists.specs.FillLaws.{tabulate-at}
 use Rattle.lists.specs.RangeLaws.{map-at}
 use Rattle.lists.specs.Tests.{by-option}
-use Rattle.rules.specs.Table.{Path, records, pathAt, owned, pathsBelow, pathsOf, slotsOf, present}
+use Rattle.rules.specs.Table.{records, pathAt, owned, pathsBelow, pathsOf, slotsOf, present}
 use Rattle.rules.specs.Refusals.{Refusal, refusal}
 use Rattle.rules.specs.Report.{rankIn}
 use Rattle.rules.specs.Machine.{byteFor, choice, choiceBytes}
