@@ -140,6 +140,10 @@ alike-at zero i x = refl
 alike-at (suc n) zero x = refl
 alike-at (suc n) (suc i) x = alike-at n i x
 
+-- a table of one element is that element over and over
+pub tabulate-alike : {A : Type 0} (x : A) (n : ℕ) → tabulate (λ i. x) n ≡ replicate n x
+tabulate-alike x n = sym (is-tabulate (λ i. x) x n (replicate n x) (length-replicate n x) (λ i h. alike-at n i x))
+
 -- a list padded to a length
 
 module _ {A : Type 0} (x : A) where

@@ -1,9 +1,11 @@
 -- Laws of the fold from the left: step and end, two folds one after the other, what a fold keeps, and how a part of the state goes.
-use mathlib.Core.Path.{_≡_, refl}
+use mathlib.Core.Path.{_≡_, refl, ap, _∙_}
 use mathlib.Core.List.{List, [], _∷_, _++_, append-nil, append-assoc}
 use Prim.Native.Nat.{ℕ, suc, _+_, _<_}
 use native.Mathlib.Omega.{arith}
-use lib.ListN.{length, getD}
+use native.Mathlib.Numerals.{add-one}
+use lib.ListN.{length, getD, take}
+use lib.Seq.{take-suc}
 use Rattle.lists.specs.Fold.{foldLeft}
 
 module _ {A B : Type 0} (f : B → A → B) where
@@ -20,6 +22,14 @@ module _ {A B : Type 0} (f : B → A → B) where
   unfolding foldLeft
   fold-append y [] ys = refl
   fold-append y (x ∷ xs) ys = fold-append (f y x) xs ys
+
+  -- over one element more it takes one step more
+  pub fold-more : (y : B) (xs : List A) (k : ℕ) (d : A)
+      → k < length xs
+      → foldLeft f y (take (k + 1) xs) ≡ f (foldLeft f y (take k xs)) (getD xs k d)
+  fold-more y xs k d h =
+      ap (foldLeft f y) (ap (λ n. take n xs) (add-one k) ∙ take-suc xs k d h) ∙ fold-append y (take k xs) (getD xs k d ∷ [])
+      ∙ fold-cons (foldLeft f y (take k xs)) (getD xs k d) [] ∙ fold-nil (f (foldLeft f y (take k xs)) (getD xs k d))
 
   -- what every step keeps, the fold keeps
   pub fold-keeps : (P : B → Type 0)

@@ -1,10 +1,10 @@
 -- Laws of numbers: by cases, two numbers told by one, and differences.
 use mathlib.Core.Path.{_≡_, refl, sym, ap, _∙_}
-use Prim.Native.Nat.{ℕ, zero, suc, _+_, _*_, _/_, _%_, _<_, _≤_}
+use Prim.Native.Nat.{ℕ, zero, suc, _+_, _-_, _*_, _/_, _%_, _<_, _≤_}
 use native.Mathlib.Omega.{arith}
 use lib.Dec.{ltb}
-use borrow.Author.Tests.{ltb-true}
-use lib.IntN.{ℤ, pos, _+ℤ_, _-ℤ_, negℤ, natAbs, +ℤ-assoc, +ℤ-comm, +ℤ-invr, +ℤ-idl}
+use borrow.Author.Tests.{ltb-true, lt-ltb, le-ltb}
+use lib.IntN.{ℤ, pos, negsuc, _+ℤ_, _-ℤ_, negℤ, natAbs, +ℤ-assoc, +ℤ-comm, +ℤ-invr, +ℤ-idl}
 use Rattle.lists.specs.Tests.{by-test}
 
 -- a number is 0 or one more than another
@@ -29,6 +29,15 @@ pub difference-most : (a b n : ℕ) → a ≤ n → b ≤ n → natAbs (pos a -�
 difference-most a zero n h l = omega arith
 difference-most a (suc b) n h l =
     by-test (ltb a (suc b)) (λ q. rw q (omega (arith, ltb-true a (suc b) q))) (λ q. rw q (omega arith))
+
+-- the difference of a larger number and a smaller one, and the other way round
+pub difference-above : (b a : ℕ) → a < b → pos b -ℤ pos a ≡ pos (suc (b - a - 1))
+difference-above b zero h = ap pos (omega arith)
+difference-above b (suc a) h = rw (le-ltb b (suc a) (omega arith)) (ap pos (omega arith))
+
+pub difference-below : (b a : ℕ) → b < a → pos b -ℤ pos a ≡ negsuc (a - b - 1)
+difference-below b zero h = absurd (omega arith)
+difference-below b (suc a) h = rw (lt-ltb b (suc a) h) (ap negsuc (omega arith))
 
 -- one more difference takes a sum of differences on from its last number to the next
 pub telescope : (c s t u : ℤ) → c +ℤ t -ℤ s +ℤ (u -ℤ t) ≡ c +ℤ u -ℤ s

@@ -1,6 +1,6 @@
 -- Laws of a range of numbers: those of a range that pass a test, and a map over a list by its elements.
-use mathlib.Core.Path.{_≡_, refl, sym, _∙_}
-use mathlib.Core.Bool.{Bool, true, false}
+use mathlib.Core.Path.{_≡_, refl, sym, ap, _∙_}
+use mathlib.Core.Bool.{Bool, true, false, _&&_, or-false}
 use mathlib.Core.List.{List, [], _∷_, map}
 use Prim.Native.Nat.{ℕ, zero, suc, _+_, _<_, _≤_}
 use native.Mathlib.Omega.{arith}
@@ -8,10 +8,11 @@ use native.Mathlib.Nat.{not-suc-le-zero}
 use lib.ListN.{length, getD}
 use lib.Dec.{eqb}
 use borrow.Author.Tests.{eqb-true, eqb-false}
-use Rattle.lists.specs.Search.{thoseBelow}
+use Rattle.lists.specs.Search.{anyBelow, anyIn, thoseBelow}
 use Rattle.lists.specs.Fill.{tabulate}
 use Rattle.lists.specs.Tests.{by-test}
-use Rattle.lists.specs.SearchLaws.{those-in, those-out, those-none}
+use Rattle.lists.specs.SearchLaws.{any-below-suc, any-below-zero, those-in, those-out, those-none}
+use Rattle.lists.specs.ListLaws.{any-nil, any-cons, any-append}
 use Rattle.lists.specs.FillLaws.{tabulate-none, tabulate-suc}
 
 those-empty : (test : ℕ → Bool) (n : ℕ) → ((i : ℕ) → i < n → test i ≡ false) → thoseBelow test n ≡ []
@@ -37,6 +38,16 @@ those-range test start (suc n) (suc size) h p q =
     (λ e. let short : start + suc size ≤ n = omega (arith, eqb-false (start + size) n e) in
     those-out test n (by-test (test n) (λ t. absurd (let r = q n (omega arith) t in omega arith)) (λ t. t))
     ∙ those-range test start n (suc size) short p (λ i l t. q i (omega arith) t))
+
+-- some of those pass a second test where some number passes both
+pub any-those : (f test : ℕ → Bool) (n : ℕ) → anyIn test (thoseBelow f n) ≡ anyBelow (λ k. f k && test k) n
+any-those f test zero = ap (anyIn test) (those-none f) ∙ any-nil test ∙ sym (any-below-zero (λ k. f k && test k))
+any-those f test (suc n) =
+    let both : ℕ → Bool = λ k. f k && test k in
+    by-test (f n)
+    (λ q. ap (anyIn test) (those-in f n q) ∙ any-append test (thoseBelow f n) (n ∷ [])
+    ∙ rw (any-cons test n [], any-nil test, or-false, any-those f test n) (sym (any-below-suc both n ∙ rw q)))
+    (λ q. ap (anyIn test) (those-out f n q) ∙ any-those f test n ∙ sym (any-below-suc both n ∙ rw (q, or-false)))
 
 -- an element of a map is the map of the element
 pub map-at : {A B : Type 0} (f : A → B) (l : List A) (k : ℕ) (d : A) (e : B) → k < length l → getD (map f l) k e ≡ f (getD l k d)

@@ -1,7 +1,7 @@
 -- Laws of the numbers below a bound: the first that passes a test, whether any does, which and how many do, and the greatest value.
 use mathlib.Core.Path.{_≡_, refl, sym, ap, _∙_}
-use mathlib.Core.Logic.{⊎-elim}
-use mathlib.Core.Bool.{Bool, true, false, not, _&&_, _||_}
+use mathlib.Core.Logic.{_≢_, ⊎-elim}
+use mathlib.Core.Bool.{Bool, true, false, not, _&&_, _||_, or-false}
 use mathlib.Core.List.{[], _∷_, _++_}
 use mathlib.Core.Option.{Option, none, some}
 use Prim.Native.Nat.{ℕ, zero, suc, _+_, _-_, _<_, _≤_, max}
@@ -180,6 +180,35 @@ module _ (f g : ℕ → Bool) where
 -- tests that agree count the same
 pub count-ext : (f g : ℕ → Bool) (n : ℕ) → ((k : ℕ) → k < n → f k ≡ g k) → countBelow f n ≡ countBelow g n
 count-ext f g n h = omega (arith, count-mono f g n (λ k l e. sym (h k l) ∙ e), count-mono g f n (λ k l e. h k l ∙ e))
+
+-- tests that differ in one number alone, which only the first passes, differ by one
+pub count-one : (f g : ℕ → Bool) (n j : ℕ)
+    → j < n
+    → f j ≡ true
+    → g j ≡ false
+    → ((k : ℕ) → k < n → k ≢ j → f k ≡ g k)
+    → countBelow f n ≡ suc (countBelow g n)
+count-one f g zero j l a b h = absurd (not-suc-le-zero l)
+count-one f g (suc n) j l a b h =
+    by-equal j n
+    (λ e. let r = count-ext f g n (λ k i. h k (omega arith) (omega arith)) in
+    omega (arith, count-in f n (rw e at a), count-out g n (rw e at b)))
+    (λ e. let r = count-one f g n j (omega arith) a b (λ k i. h k (omega arith)) in
+    let q = h n (omega arith) (λ z. e (sym z)) in
+    by-test (f n)
+    (λ p. omega (arith, count-in f n p, count-in g n (sym q ∙ p)))
+    (λ p. omega (arith, count-out f n p, count-out g n (sym q ∙ p))))
+
+-- those that pass are none where no number passes, and only there
+pub count-any : (test : ℕ → Bool) (n : ℕ) → eqb (countBelow test n) 0 ≡ not (anyBelow test n)
+unfolding countBelow anyBelow
+count-any test zero = refl
+count-any test (suc n) =
+    by-test (test n)
+    (λ q. ne-eqb (countBelow test (suc n)) 0 (omega (arith, count-in test n q))
+    ∙ sym (ap not (any-below-suc test n ∙ or-right (anyBelow test n) (test n) q)))
+    (λ q. let fewer : anyBelow test (suc n) ≡ anyBelow test n = any-below-suc test n ∙ rw (q, or-false) in
+    ap (λ (m : ℕ). eqb m 0) (count-out test n q) ∙ count-any test n ∙ ap not (sym fewer))
 
 -- those that pass are those that pass a second test and those that fail it
 pub count-parts : (f g : ℕ → Bool) (n : ℕ)

@@ -96,6 +96,10 @@ pub paths-most : (t row : List ℕ) → length (slotPaths t row) ≤ length row
 unfolding slotPaths
 paths-most t row = omega (arith, length-map (filled row) (pathAt t), filled-most row)
 
+-- the slots of an accepted table
+pub all-slots : (t : List ℕ) (slots : List (List ℕ)) → refusal t ≡ none → slots ≡ slotsOf t (min (records t) 1008) → Slots t slots
+all-slots t slots e s = record { accepted = e; found = s }
+
 -- the slots of a vertex hold its paths
 pub slot-row : (t : List ℕ) (slots : List (List ℕ)) (v : ℕ) → Slots t slots → v < 64 → SlotRow t v (getD slots v [])
 unfolding slotPaths slotsOf pathsOf pathsBelow

@@ -6,3 +6,14 @@ pub mod ScanLaws
 pub mod HeardLaws
 pub mod Found
 pub mod ChoiceLaws
+pub mod Moves
+pub mod MoveLaws
+pub mod Counts
+pub mod CountLaws
+pub mod Rounds
+pub mod RoundLaws
+pub mod Stepped
+pub mod StepLaws
+pub mod Going
+pub mod Ran
+pub mod GoingLaws

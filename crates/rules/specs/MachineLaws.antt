@@ -22,6 +22,20 @@ use Rattle.rules.specs.Machine.{Pair, offsetOf, speaks, byteFor, pathFor
 use Rattle.rules.specs.Shape.{Permitted, Shaped}
 use Rattle.rules.specs.PathLaws.{Stands, first-among, first-same, place-tells, place-nil, place-most, place-absent}
 
+-- the standing of a rank is at most 16
+pub standing-of-most : (r : ℕ) → standingOf r ≤ 16
+unfolding standingOf
+standing-of-most zero = omega arith
+standing-of-most (suc r) = omega arith
+
+-- ranks up to 16 are told by their standings
+pub standing-of-tells : (r s : ℕ) → r ≤ 16 → s ≤ 16 → standingOf r ≡ standingOf s → r ≡ s
+unfolding standingOf
+standing-of-tells zero zero h l e = refl
+standing-of-tells zero (suc s) h l e = omega arith
+standing-of-tells (suc r) zero h l e = omega arith
+standing-of-tells (suc r) (suc s) h l e = omega arith
+
 -- what is given at the next hops decides what is best
 pub best-same : (paths : ℕ → List Path) (f g : ℕ → Path) (v : ℕ)
     → ((k : ℕ) → k < length (paths v) → f (nextHop (getD (paths v) k [])) ≡ g (nextHop (getD (paths v) k [])))
@@ -161,6 +175,11 @@ module _ (paths : ℕ → List Path) where
       let r = or-none (not heard) (ltb most b) (rw (ne-eqb b 0 h, badByte, badAt) at e) in
       (not-false heard (r .0), ltb-false most b (r .1))
 
+  -- a pair is told by its offset
+  pub offset-listens : (p : Pair) → p .speaker < 64 → listensAt paths (offsetOf p) ≡ listens paths (p .listener) (p .speaker)
+  unfolding listensAt offsetOf
+  offset-listens p s = rw (told-first (p .listener) (p .speaker) s, told-second (p .listener) (p .speaker) s)
+
   -- at a listening pair the byte for any path is not bad
   pub offset-good : (p : Pair) (c : Path)
       → p .speaker < 64
@@ -216,12 +235,6 @@ module _ (paths : ℕ → List Path) where
   unfolding rankIn
   rank-tells heard v h = place-tells (choice paths heard v) (paths v) (rw (speaks-other v h) at (choice-spoken heard v))
 
-  -- the standing of a rank is at most 16
-  standing-of-most : (r : ℕ) → standingOf r ≤ 16
-  unfolding standingOf
-  standing-of-most zero = omega arith
-  standing-of-most (suc r) = omega arith
-
   -- a standing is at most 16
   pub standing-most : (heard : List ℕ) (v : ℕ) → standing paths heard v ≤ 16
   unfolding standing
@@ -233,14 +246,6 @@ module _ (paths : ℕ → List Path) where
   movement-most heard p =
       difference-most (standing paths (step paths heard p) (p .listener)) (standing paths heard (p .listener)) 16
       (standing-most (step paths heard p) (p .listener)) (standing-most heard (p .listener))
-
-  -- ranks up to 16 are told by their standings
-  standing-of-tells : (r s : ℕ) → r ≤ 16 → s ≤ 16 → standingOf r ≡ standingOf s → r ≡ s
-  unfolding standingOf
-  standing-of-tells zero zero h l e = refl
-  standing-of-tells zero (suc s) h l e = omega arith
-  standing-of-tells (suc r) zero h l e = omega arith
-  standing-of-tells (suc r) (suc s) h l e = omega arith
 
 -- what a listening pair of a shaped table is
 pub record Listening (v u : ℕ) : Type 0 where
@@ -269,6 +274,15 @@ module _ (paths : ℕ → List Path) (present : ℕ → Bool) (shaped : Shaped p
             speakerSmall = omega (arith, q .vertices 1 (q .long));
             apart = λ z. twice-apart (getD (paths v) k []) (q .simple) 0 1 (omega arith) (q .long) (q .owner ∙ z ∙ sym n);
           }
+
+  -- a listening pair has its own offset in the state
+  pub offset-small : (p : Pair)
+      → listens paths (p .listener) (p .speaker) ≡ true
+      → (offsetOf p < 4096) × (listensAt paths (offsetOf p) ≡ true)
+  unfolding offsetOf
+  offset-small p e =
+      let r = listening (p .listener) (p .speaker) e in
+      (omega (arith, r .listenerSmall, r .speakerSmall), offset-listens paths p (r .speakerSmall) ∙ e)
 
   -- an accepted step keeps the state valid
   pub step-valid : (heard : List ℕ) (p : Pair)
@@ -308,7 +322,7 @@ module _ (paths : ℕ → List Path) (present : ℕ → Bool) (shaped : Shaped p
   standing-tells one two v h e =
       let a = choice paths one v in
       let b = choice paths two v in
-      let z = standing-of-tells paths (rankIn paths v a) (rankIn paths v b) (rank-most v a) (rank-most v b) e in
+      let z = standing-of-tells (rankIn paths v a) (rankIn paths v b) (rank-most v a) (rank-most v b) e in
       sym (rank-tells paths one v h) ∙ rw z (rank-tells paths two v h)
 
   -- a vertex with the standing 0 has no choice, but for the destination
@@ -316,5 +330,5 @@ module _ (paths : ℕ → List Path) (present : ℕ → Bool) (shaped : Shaped p
   unfolding standing standingOf
   standing-zero heard v h e =
       let a = choice paths heard v in
-      let z : rankIn paths v a ≡ 0 = standing-of-tells paths (rankIn paths v a) 0 (rank-most v a) (omega arith) e in
+      let z : rankIn paths v a ≡ 0 = standing-of-tells (rankIn paths v a) 0 (rank-most v a) (omega arith) e in
       sym (rank-tells paths heard v h) ∙ rw z

@@ -4,15 +4,17 @@ use Prim.{tt}
 use Prim.Native.Nat.{ℕ, zero, suc, _+_, _-_, _<_, _≤_}
 use mathlib.Core.Path.{_≡_, refl, sym, ap, _∙_}
 use mathlib.Core.Logic.{_≢_, _⊎_, inl, inr, ⊎-elim, ⊎-map}
-use mathlib.Core.Bool.{Bool, true, false, not, _||_}
+use mathlib.Core.Bool.{Bool, true, false, not, _&&_, _||_}
 use mathlib.Core.List.{List, [], _∷_, _++_, map, map-append, append-nil, append-assoc}
 use native.Mathlib.Omega.{arith}
-use lib.ListN.{getD}
-use borrow.Author.Tests.{not-true, not-false}
+use lib.ListN.{length, getD}
+use borrow.Author.Tests.{eqb-false, not-true, not-false}
 use lib.Dec.{eqb}
-use Rattle.lists.specs.Search.{anyIn, elem}
+use Rattle.lists.specs.Search.{anyIn, countBelow, elem, thoseBelow}
 use Rattle.lists.specs.Tests.{true≢, by-test, or-left, or-right, or-cases}
 use Rattle.lists.specs.ListLaws.{none-at, some-at, elem-nil, elem-cons, elem-at, elem-place, elem-more}
+use Rattle.lists.specs.SearchLaws.{any-below, those-count, count-any}
+use Rattle.lists.specs.RangeLaws.{any-those}
 use Rattle.lists.specs.Fold.{foldLeft}
 use Rattle.lists.specs.FoldLaws.{fold-append, fold-keeps, fold-follows}
 use Rattle.rules.specs.Table.{Path}
@@ -48,6 +50,21 @@ closes-not-yet [] = refl
 closes-not-yet (p ∷ ps) =
     by-test (closes (p ∷ ps) [])
     (λ q. absurd (true≢ (closes-all (p ∷ ps) [] q p (elem-at (p ∷ ps) 0 (omega arith))) (elem-nil p))) (λ q. q)
+
+closes-some : (pairs since : List ℕ) → pairs ≢ [] → closes pairs since ≡ not (anyIn (λ j. not (elem j since)) pairs)
+unfolding closes
+closes-some [] since n = absurd (n refl)
+closes-some (p ∷ ps) since n = refl
+
+-- over the numbers below n that listen, some of them, a round closes where none of them is left, and only there
+pub closes-count : (f : ℕ → Bool) (n : ℕ) (since : List ℕ) (k : ℕ)
+    → k < n
+    → f k ≡ true
+    → closes (thoseBelow f n) since ≡ eqb (countBelow (λ j. f j && not (elem j since)) n) 0
+closes-count f n since k h e =
+    let some = count-any f n ∙ ap not (any-below f n k h e) in
+    closes-some (thoseBelow f n) since (λ z. eqb-false (countBelow f n) 0 some (sym (those-count f n) ∙ ap length z))
+    ∙ ap not (any-those f (λ j. not (elem j since)) n) ∙ sym (count-any (λ j. f j && not (elem j since)) n)
 
 -- one activation more: at the end of the schedule and at the head of what has been activated since
 

@@ -1,13 +1,12 @@
 -- The rules page, "The machine", from the schedule on.
-use Prim.Native.Nat.{ℕ, zero, suc, _+_, _*_}
+use Prim.Native.Nat.{ℕ, zero, suc}
 use mathlib.Core.Bool.{Bool, true, false, not}
-use mathlib.Core.List.{List, [], _∷_, map}
+use mathlib.Core.List.{List, [], _∷_}
 use lib.ListN.{getD, set, replicate}
 use lib.IntN.{ℤ, pos, negsuc, _+ℤ_}
 use Rattle.lists.specs.Search.{anyIn, elem, same, thoseBelow}
-use Rattle.lists.specs.Fill.{blocks}
 use Rattle.lists.specs.Fold.{foldLeft}
-use Rattle.rules.specs.Table.{Path, listens}
+use Rattle.rules.specs.Table.{Path, listensAt}
 use Rattle.rules.specs.Machine.{Pair, offsetOf, choice, step, movement}
 
 -- "A schedule is a list of pairs, two bytes each, listener first"
@@ -32,9 +31,9 @@ more true n = suc n
 more false n = n
 
 module _ (paths : ℕ → List Path) where
-  -- the offsets of all listening pairs, by rising listener, then speaker
+  -- the offsets of all listening pairs, rising
   unfoldable pub listeningOffsets : List ℕ
-  listeningOffsets = blocks (λ v. map (λ u. 64 * v + u) (thoseBelow (listens paths v) 64)) 64
+  listeningOffsets = thoseBelow (listensAt paths) 4096
 
 -- "a round closes as soon as every listening pair has been activated since the last closing. With no listening pair there are 0
 -- rounds."

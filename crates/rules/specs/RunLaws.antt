@@ -217,6 +217,14 @@ module _ (paths : ℕ → List Path) where
     pub sum : (v : ℕ)
         → getD (y .sums) v (pos 0) ≡ getD (x .sums) v (pos 0) +ℤ pos (standing paths (y .heard) v) -ℤ pos (standing paths (x .heard) v)
 
+  -- at the start nothing has grown
+  pub telescoped-none : (x : Tally) → Telescoped x x
+  telescoped-none x =
+      record {
+        size = refl;
+        sum = λ v. sym (+ℤ-negℤ-cancel (getD (x .sums) v (pos 0)) (pos (standing paths (x .heard) v)));
+      }
+
   -- one activation more keeps that, where the speaker is a vertex and the listener has a sum
   pub telescoped-on : (pairs : List ℕ) (x y : Tally) (p : Pair)
       → p .speaker < 64
@@ -262,11 +270,7 @@ module _ (paths : ℕ → List Path) (present : ℕ → Bool) (shaped : Shaped p
       fold-keeps-of (activated paths pairs) (λ p. listens paths (p .listener) (p .speaker) ≡ true) (Telescoped paths x)
       (λ y p l t. let r = listening paths present shaped (p .listener) (p .speaker) l in
       telescoped-on paths pairs x y p (r .speakerSmall) (omega (arith, r .listenerSmall)) t)
-      noPair x s (all-listen paths s noPair e)
-      (record {
-        size = refl;
-        sum = λ v. sym (+ℤ-negℤ-cancel (getD (x .sums) v (pos 0)) (pos (standing paths (x .heard) v)));
-      })
+      noPair x s (all-listen paths s noPair e) (telescoped-none paths x)
 
   -- the sum of movements, taken over the history, equals the last standing minus the first
   pub run-telescopes : (heard : List ℕ) (s : List Pair)

@@ -12,15 +12,14 @@ use borrow.Author.Tests.{lt-ltb, le-ltb, ne-eqb}
 use Rattle.lists.specs.Search.{firstIn}
 use Rattle.lists.specs.Fill.{tabulate}
 use Rattle.lists.specs.Tests.{by-test, by-less, by-option}
-use Rattle.lists.specs.NumberLaws.{told-first, told-second}
 use Rattle.lists.specs.ListLaws.{first-in-under, first-in-ext, seek-hit, seek-next, seek-end}
 use Rattle.lists.specs.FillLaws.{tabulate-at, tabulate-length}
 use Rattle.rules.specs.Table.{Path, listens, listensAt}
-use Rattle.rules.specs.Machine.{Pair, speaks, badAt, badByte, heardFault}
+use Rattle.rules.specs.Machine.{Pair, offsetOf, speaks, badAt, badByte, heardFault}
 use Rattle.rules.specs.Run.{pairsIn}
 use Rattle.rules.specs.Answers.{firstBadPair}
 use Rattle.rules.specs.Shape.{Shaped}
-use Rattle.rules.specs.MachineLaws.{bad-same, listening}
+use Rattle.rules.specs.MachineLaws.{bad-same, listening, offset-listens}
 use Rattle.rules.specs.ScheduleLaws.{pairs-length, pairs-at}
 use Rattle.state.specs.Judged.{placeOr, badMarked, badOffset, marksPair, unmarked, badPair}
 
@@ -125,10 +124,10 @@ module _ (paths : ℕ → List Path) (marks : List Bool) (listen : marks ≡ tab
 
   -- two vertices have a mark of their own
   mark-inside : (v u : ℕ) → v < 64 → u < 64 → getD marks (v * 64 + u) false ≡ listens paths v u
-  unfolding listensAt
+  unfolding offsetOf
   mark-inside v u l h =
       let z : v * 64 + u ≡ 64 * v + u = omega arith in
-      mark-at (v * 64 + u) (omega arith) ∙ rw (z, told-first v u h, told-second v u h)
+      mark-at (v * 64 + u) (omega arith) ∙ rw z (offset-listens paths (record { listener = v; speaker = u }) h)
 
   -- past them there is none
   mark-past : (v u : ℕ) → 64 ≤ v → getD marks (v * 64 + u) false ≡ false

@@ -23,7 +23,7 @@ abbrev μ-loop : tie.MeasureT-loop
 μ-loop t slots asked₀ v₀ asked v = 64 - v
 
 loop-holds : tie.Need-loop-holds Inv-loop μ-loop
-loop-holds c = let a = c .before .before in (a .pre, omega arith, length-replicate {A = List ℕ} 64 (replicate 16 0), sym (tabulate-none _))
+loop-holds c = let a = c .before in (a .pre, omega arith, length-replicate {A = List ℕ} 64 (replicate 16 0), sym (tabulate-none _))
 
 asked-row-requires : tie.Need-asked-row-requires Inv-loop μ-loop
 asked-row-requires c κs = (c .before .loop .inv .0, omega arith)

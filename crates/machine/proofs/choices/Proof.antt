@@ -1,0 +1,50 @@
+-- `machine::choices` meets its contract: an accepted table has its choices, a refused one has none.
+-- Assumes nothing.
+use mathlib.Core.Path.{sym, _∙_}
+use native.Mathlib.Omega.{arith}
+use borrow.Author.Needs.{needs}
+use Rattle.reader.specs.ReadingLaws.{reading-accepted, reading-refused}
+use Rattle.machine.specs.AskedLaws.{all-slots}
+use Rattle.machine.specs.StepLaws.{choices-accepted, choices-refused}
+use Rattle.machine.proofs.choices.Statement.{statement}
+use Rattle.machine.proofs.choices.Tie as tie
+
+read-requires : tie.Need-read-requires
+read-requires c κs = search needs
+
+enum-told : tie.Need-enum-told
+enum-told c = search needs
+
+enum-told-2 : tie.Need-enum-told-2
+enum-told-2 c = search needs
+
+slots-of-requires : tie.Need-slots-of-requires
+slots-of-requires c κs = search needs
+
+asked-in-requires : tie.Need-asked-in-requires
+asked-in-requires c κs = all-slots _ _ (reading-accepted _ (sym (c .before .enum-told2 .given .1) ∙ c .before .before .before .read .ensures)) (c .slots-of .ensures)
+
+choice-bytes-requires : tie.Need-choice-bytes-requires
+choice-bytes-requires c κs = (
+      all-slots _ _ (reading-accepted _ (sym (c .before .before .enum-told2 .given .1) ∙ c .before .before .before .before .read .ensures)) (c .before .slots-of .ensures),
+      c .asked-in .ensures,
+    )
+
+returns : tie.Need-returns
+returns c = choices-accepted _ _ _ (reading-accepted _ (sym (c .before .before .before .enum-told2 .given .1) ∙ c .before .before .before .before .before .read .ensures)) (c .choice-bytes .ensures)
+
+returns-2 : tie.Need-returns-2
+returns-2 c = choices-refused _ _ _ (reading-refused _ _ _ (sym (c .enum-told .given .1) ∙ c .before .before .read .ensures))
+
+pub choices-spec : {M : Type 1} → statement M
+choices-spec =
+    tie.close
+    (tie.spec
+    read-requires
+    enum-told
+    enum-told-2
+    slots-of-requires
+    asked-in-requires
+    choice-bytes-requires
+    returns
+    returns-2)

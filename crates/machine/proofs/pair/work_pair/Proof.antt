@@ -1,0 +1,87 @@
+-- `machine::pair::work_pair` meets its contract: the ranks before and after give the movement.
+-- Assumes nothing.
+use mathlib.Core.Path.{sym, _∙_}
+use native.Mathlib.Omega.{arith}
+use Rattle.machine.specs.AskedLaws.{all-slots, slot-row}
+use Rattle.machine.specs.StepLaws.{worked-says, worked-small, worked-moved, moved-told}
+use Rattle.machine.proofs.pair.work_pair.Statement.{statement}
+use Rattle.machine.proofs.pair.work_pair.Tie as tie
+
+slots-of-requires : tie.Need-slots-of-requires
+slots-of-requires c κs = omega arith
+
+asked-row-requires : tie.Need-asked-row-requires
+asked-row-requires c κs = (all-slots _ _ (c .before .before .before .pre .accepted) (c .slots-of .ensures), omega arith)
+
+mul-choice-byte : tie.Need-mul-choice-byte
+mul-choice-byte c = omega arith
+
+array-copy-out-choice-byte : tie.Need-array-copy-out-choice-byte
+array-copy-out-choice-byte c = omega arith
+
+choice-byte-requires : tie.Need-choice-byte-requires
+choice-byte-requires c κs =
+    (omega arith, slot-row _ _ _ (all-slots _ _ (c .before .before .before .before .before .before .pre .accepted) (c .before .before .before .slots-of .ensures)) (omega arith), c .before .before .asked-row .ensures)
+
+mul-choice-byte-2 : tie.Need-mul-choice-byte-2
+mul-choice-byte-2 c = omega arith
+
+array-copy-out-choice-byte-2 : tie.Need-array-copy-out-choice-byte-2
+array-copy-out-choice-byte-2 c = omega arith
+
+asked-row-requires-2 : tie.Need-asked-row-requires-2
+asked-row-requires-2 c κs = (all-slots _ _ (c .before .before .before .before .before .before .before .before .pre .accepted) (c .before .before .before .before .before .slots-of .ensures), omega arith)
+
+choice-byte-requires-2 : tie.Need-choice-byte-requires-2
+choice-byte-requires-2 c κs =
+    (omega arith, slot-row _ _ _ (all-slots _ _ (c .before .before .before .before .before .before .before .before .before .before .pre .accepted) (c .before .before .before .before .before .before .before .slots-of .ensures)) (omega arith), c .before .asked-row2 .ensures)
+
+mul-hear : tie.Need-mul-hear
+mul-hear c = omega arith
+
+array-copy-out-hear : tie.Need-array-copy-out-hear
+array-copy-out-hear c = omega arith
+
+hear-requires : tie.Need-hear-requires
+hear-requires c κs =
+    let w = c .before .before .before .before .before .before .before .before .before .before .before .before .before .pre in (
+      slot-row _ _ _ (all-slots _ _ (w .accepted) (c .before .before .before .before .before .before .before .before .before .before .slots-of .ensures)) (omega arith),
+      c .before .before .before .before .before .before .before .before .before .asked-row .ensures,
+      worked-says _ _ _ _ w _ (c .before .before .choice-byte2 .ensures),
+    )
+
+movement-requires : tie.Need-movement-requires
+movement-requires c κs =
+    let w = c .before .before .before .before .before .before .before .before .before .before .before .before .before .before .before .before .pre in
+    (worked-small _ _ _ _ w _ _ (c .before .before .before .before .before .before .before .before .before .choice-byte .ensures), worked-small _ _ _ _ w _ _ (c .before .before .hear .ensures .1))
+
+same-length : tie.Need-same-length
+same-length c = omega arith
+
+returns : tie.Need-returns
+returns c =
+    let h = c .before .before .before .hear .ensures in (
+      moved-told _ _ _ _
+          (worked-moved _ _ _ _ (c .before .before .before .before .before .before .before .before .before .before .before .before .before .before .before .before .before .pre) _ _ _ _ (h .0) (c .before .before .before .before .before .before .before .before .before .before .choice-byte .ensures) (h .1) (c .movement .ensures)),
+      h .0,
+    )
+
+pub work-pair-spec : {M : Type 1} → statement M
+work-pair-spec =
+    tie.close
+    (tie.spec
+    slots-of-requires
+    asked-row-requires
+    mul-choice-byte
+    array-copy-out-choice-byte
+    choice-byte-requires
+    mul-choice-byte-2
+    array-copy-out-choice-byte-2
+    asked-row-requires-2
+    choice-byte-requires-2
+    mul-hear
+    array-copy-out-hear
+    hear-requires
+    movement-requires
+    same-length
+    returns)
