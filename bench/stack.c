@@ -1,6 +1,7 @@
-/* Bytes of stack that one call of the proved check takes: stack TABLE. The call runs on a stack of its own that was
-   painted before; the lowest byte that is no longer paint is as far down as the call wrote. A function that does
-   nothing is called the same way, and what that takes is left out. */
+/* Bytes of stack that one call of the proved code takes: stack check TABLE, stack step TABLE SCHEDULE (its last pair,
+   from zeros) or stack run TABLE SCHEDULE. The call runs on a stack of its own that was painted before; the lowest byte
+   that is no longer paint is as far down as the call wrote. A function that does nothing is called the same way, and
+   what that takes is left out. */
 #define _XOPEN_SOURCE 700
 #include <stdint.h>
 #include <stdio.h>
@@ -10,31 +11,56 @@
 
 enum { STACK_BYTES = 1 << 20, MOST_BYTES = 1 << 16 };
 
-typedef uint64_t check_function(const uint8_t *table, size_t length, uint8_t *rows, size_t rows_length, uint8_t *ring,
-                                size_t ring_length);
+uint64_t probe_check(const uint8_t *table, size_t length, uint8_t *rows, size_t rows_length, uint8_t *ring,
+                     size_t ring_length);
+uint64_t probe_step(const uint8_t *table, size_t length, uint8_t *heard, size_t heard_length, uint8_t listener,
+                    uint8_t speaker, int32_t *movement, size_t movement_length);
+uint64_t probe_run(const uint8_t *table, size_t length, uint8_t *heard, size_t heard_length, const uint8_t *schedule,
+                   size_t schedule_length, int32_t *sums, size_t sums_length, uint32_t *numbers,
+                   size_t numbers_length);
 
-check_function probe_check;
+struct input {
+    uint8_t bytes[MOST_BYTES];
+    size_t length;
+};
 
-static uint8_t table[MOST_BYTES], rows[1024], ring[64];
-static size_t table_length;
-static check_function *volatile called;
+static struct input table, schedule;
+static uint8_t rows[1024], ring[64], heard[4096];
+static int32_t movement, sums[64];
+static uint32_t numbers[5];
+static void (*volatile called)(void);
 static ucontext_t here, there;
 
-static uint64_t nothing(const uint8_t *t, size_t length, uint8_t *r, size_t rows_length, uint8_t *g, size_t ring_length)
+static void nothing(void)
 {
-    (void)t, (void)length, (void)r, (void)rows_length, (void)g, (void)ring_length;
-    return 0;
+}
+
+static void check(void)
+{
+    probe_check(table.bytes, table.length, rows, sizeof rows, ring, sizeof ring);
+}
+
+static void step(void)
+{
+    const uint8_t *pair = schedule.bytes + schedule.length - 2;
+    probe_step(table.bytes, table.length, heard, sizeof heard, pair[0], pair[1], &movement, 1);
+}
+
+static void run(void)
+{
+    probe_run(table.bytes, table.length, heard, sizeof heard, schedule.bytes, schedule.length, sums, 64, numbers, 5);
 }
 
 static void call(void)
 {
-    called(table, table_length, rows, sizeof rows, ring, sizeof ring);
+    called();
 }
 
 /* Bytes from the lowest one that changed to the stack's end. */
-static size_t painted_depth(check_function *function, uint8_t *stack, uint8_t paint)
+static size_t painted_depth(void (*function)(void), uint8_t *stack, uint8_t paint)
 {
     memset(stack, paint, STACK_BYTES);
+    memset(heard, 0, sizeof heard);
     if (getcontext(&there) != 0)
         exit(2);
     there.uc_stack.ss_sp = stack;
@@ -51,23 +77,36 @@ static size_t painted_depth(check_function *function, uint8_t *stack, uint8_t pa
 }
 
 /* A byte that is written with the paint's own value shows under the other paint. */
-static size_t depth_of(check_function *function, uint8_t *stack)
+static size_t depth_of(void (*function)(void), uint8_t *stack)
 {
     size_t one = painted_depth(function, stack, 0x5c), other = painted_depth(function, stack, 0xa3);
     return one > other ? one : other;
 }
 
+static void read_file(const char *name, struct input *input)
+{
+    FILE *file = fopen(name, "rb");
+    if (file == NULL) {
+        fprintf(stderr, "%s cannot be opened\n", name);
+        exit(2);
+    }
+    input->length = fread(input->bytes, 1, sizeof input->bytes, file);
+    fclose(file);
+}
+
 int main(int count, char **words)
 {
-    FILE *file = count == 2 ? fopen(words[1], "rb") : NULL;
+    int is_check = count == 3 && strcmp(words[1], "check") == 0;
+    int is_step = count == 4 && strcmp(words[1], "step") == 0;
     uint8_t *stack = malloc(STACK_BYTES);
-    if (file == NULL || stack == NULL) {
-        fputs("usage: stack TABLE\n", stderr);
+    if ((!is_check && count != 4) || stack == NULL) {
+        fputs("usage: stack check TABLE | stack step TABLE SCHEDULE | stack run TABLE SCHEDULE\n", stderr);
         return 2;
     }
-    table_length = fread(table, 1, sizeof table, file);
-    fclose(file);
-    size_t empty = depth_of(nothing, stack), full = depth_of(probe_check, stack);
+    read_file(words[2], &table);
+    if (!is_check)
+        read_file(words[3], &schedule);
+    size_t empty = depth_of(nothing, stack), full = depth_of(is_check ? check : is_step ? step : run, stack);
     if (full == STACK_BYTES) {
         fputs("the painted stack is too small\n", stderr);
         return 2;

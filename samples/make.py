@@ -48,10 +48,13 @@ LIMITS = {
     "rank-17": "1: " + " | ".join(f"1 {v} 0" for v in range(2, 18)) + " | 1 0",
 }
 
-# Cases 8 and 9 of the rules page: pairs of listener and speaker, for the tables disagree and chain.
+# Pairs of listener and speaker, under the name of the table and one of their own: cases 8 and 9 of the rules page, a
+# ring that never comes to rest, and one that activates a pair which does not listen.
 SCHEDULES = {
-    "case8": [(1, 0), (2, 1)],
-    "case9": [(2, 0), (3, 2), (1, 0), (2, 1), (3, 2)],
+    "disagree.case8": [(1, 0), (2, 1)],
+    "chain.case9": [(2, 0), (3, 2), (1, 0), (2, 1), (3, 2)],
+    "three-ring.around": 10 * [(1, 0), (2, 0), (3, 0), (1, 2), (2, 3), (3, 1)],
+    "chain.stray": [(1, 0), (2, 1), (1, 2), (0, 1)],
 }
 
 
@@ -84,6 +87,13 @@ def full(owner):
     return paths
 
 
+def downwards():
+    """Every pair of `deep`, from the last router to the first, so that a round brings a path one router further; as
+    often as the longest schedule holds."""
+    rounds = [(path[0], path[1]) for owner in range(63, 0, -1) for path in deep(owner)]
+    return (16384 * rounds)[:16384]
+
+
 def samples():
     """Every sample's file name with its bytes."""
     files = {f"{name}.table": table(text) for name, text in (SMALL | LIMITS).items()}
@@ -91,7 +101,7 @@ def samples():
     files["full-1008.table"] = b"".join(block(full(owner)) for owner in range(1, 64))
     files["too-long-16144.table"] = files["full-1008.table"] + record(17, [63, 1, 2, 0])
     files["ragged-17.table"] = files["direct.table"] + b"\x00"
-    for name, pairs in SCHEDULES.items():
+    for name, pairs in (SCHEDULES | {"deep-63.downwards": downwards()}).items():
         files[f"{name}.schedule"] = bytes(number for pair in pairs for number in pair)
     return files
 

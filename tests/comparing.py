@@ -1,8 +1,9 @@
-"""The proved code and the second program on the same tables: how both are built and run, and how the first difference
+"""The proved code and the second program on the same cases: how both are built and run, and how the first difference
 between their lines is named.
 
-Tables come from a seed, which REEFSPLICE_SEED sets. The proved code is the crate `probe`, linked into a small C
-program that takes a table per line and answers with a line, as the second program does.
+Cases come from a seed, which REEFSPLICE_SEED sets. The proved code is the crate `probe`, linked into a small C
+program that takes a case per line and answers with a line, as the second program does. What a case lends are its
+fields of bytes: a table, or what else its call takes beside one.
 """
 
 import functools
@@ -37,14 +38,24 @@ def build_libraries():
 def build_driver(place, *sources, flags=()):
     """A C program over the proved code."""
     build_libraries()
-    files = [f"tests/{source}" for source in (*sources, "lines.c")]
+    files = [f"tests/{source}" for source in (*sources, "lines.c", "lent.c")]
     warnings = ["-std=c11", "-O2", "-Wall", "-Wextra", "-Werror"]
     build(["gcc", *warnings, *flags, *files, "target/staticlib/libprobe.a", "-o", place])
 
 
+def build_planted(place, driver, planted, wrapped):
+    """The same driver with faults between it and the functions that are wrapped; the variable PLANT names one."""
+    flags = "".join(f",--wrap={name}" for name in wrapped)
+    build_driver(place, driver, planted, "planting.c", flags=[f"-Wl{flags}"])
+
+
+def fields_of(case):
+    return {name: value for name, value in case._asdict().items() if isinstance(value, bytes)}
+
+
 def run(words, cases):
     """How a program ended, and its lines."""
-    lines = "".join(f"{case.table.hex()}\n" for case in cases).encode()
+    lines = "".join(" ".join(field.hex() for field in fields_of(case).values()) + "\n" for case in cases).encode()
     try:
         done = subprocess.run(words, input=lines, capture_output=True, timeout=LONGEST_RUN)
     except subprocess.TimeoutExpired:
@@ -53,7 +64,8 @@ def run(words, cases):
 
 
 def blame(kind, cases, number, reason):
-    raise AssertionError(f"seed {SEED}, {kind}, case {number}: {reason}; table {cases[number].table.hex()}")
+    fields = ", ".join(f"{name} {field.hex()}" for name, field in fields_of(cases[number]).items())
+    raise AssertionError(f"seed {SEED}, {kind}, case {number}: {reason}; {fields}")
 
 
 def answers(kind, words, cases):
@@ -66,6 +78,26 @@ def answers(kind, words, cases):
     if (end, len(lines)) != (ENDED, len(cases)):
         raise AssertionError(f"seed {SEED}, {kind}: {words[0].name} {end}, {len(lines)} lines")
     return lines
+
+
+def agreed(kind, cases, fields, proved, second):
+    """The answer to each case as a dictionary, once both programs' words agree on all and with what the cases say."""
+    found = []
+    for number, (case, ours, theirs) in enumerate(zip(cases, proved, second)):
+        reason = difference(fields, ours, theirs)
+        found.append(dict(zip(fields, ours)))
+        if reason or not case.says.items() <= found[-1].items():
+            blame(kind, cases, number, reason or f"both differ from what it was made for: {case.says}")
+    return found
+
+
+def agreed_texts(kind, words, pairs, length):
+    """Holds the text in a buffer of that length to the front of the whole text, for cases with their answers."""
+    cases = [case for case, _ in pairs]
+    for number, ((_, answer), line) in enumerate(zip(pairs, answers(kind, words, cases))):
+        found, expected = line.split()[-2:], [answer["text"][: 2 * length] or "-", "kept"]
+        if found != expected:
+            blame(kind, cases, number, f"{found} and not {expected}")
 
 
 # ---- the first difference

@@ -26,16 +26,17 @@ static void print_accepted(const uint8_t *table, size_t length)
     putchar('\n');
 }
 
-static void answer(const uint8_t *table, size_t length)
+static void answer(const struct bytes *fields)
 {
-    uint64_t code = probe_read(table, length);
+    struct bytes table = fields[0];
+    uint64_t code = probe_read(table.bytes, table.length);
     if (code == 0)
-        print_accepted(table, length);
+        print_accepted(table.bytes, table.length);
     else
         printf("%" PRIu64 " %" PRIu64 "\n", code % 256, code / 256);
 }
 
 int main(void)
 {
-    return each_table(answer);
+    return each_case(1, answer);
 }

@@ -63,9 +63,9 @@ PLANTS = {
     "ring-before": "around is ring-before",
     "ring-after": "around is ring-after",
     "text-before": "around is text-before",
-    "text-rest": "around is text-after",
+    "text-rest": "around is text-rest",
     "text-after": "around is text-after",
-    "table-byte": "around is table",
+    "table-byte": "check-planted ended with status 3",
     "what-was-there": "around is answer-by-what-was-there",
     "clears-rows": "rows at 0 is 00 .* and a5 for",
     "clears-ring": "ring at 0 is 00 .* and a5 for",
@@ -76,8 +76,7 @@ PLANTS = {
 def setUpModule():
     print(f"test_check: seed {SEED}", flush=True)
     comparing.build_driver(DRIVER, "check_driver.c")
-    wrapped = "-Wl,--wrap=probe_check,--wrap=probe_text"
-    comparing.build_driver(PLANTED, "check_driver.c", "planted.c", flags=[wrapped])
+    comparing.build_planted(PLANTED, "check_driver.c", "planted.c", ["probe_check", "probe_text"])
 
 
 def numbers_in(ring, text):
@@ -99,14 +98,8 @@ def compare(kind, cases, driver=DRIVER, lengths=()):
     lengths = [str(length) for length in lengths]
     proved = comparing.answers(kind, [driver, *lengths], cases)
     second = comparing.answers(kind, [SECOND, "check-batch", *lengths], cases)
-    found = []
-    for number, (case, ours, theirs) in enumerate(zip(cases, proved, second)):
-        words = proved_words(ours)
-        reason = comparing.difference(FIELDS, words, [*theirs.split(), "kept"])
-        found.append(dict(zip(FIELDS, words)))
-        if reason or not case.says.items() <= found[-1].items():
-            comparing.blame(kind, cases, number, reason or f"both differ from what it was made for: {case.says}")
-    return found
+    theirs = [[*line.split(), "kept"] for line in second]
+    return comparing.agreed(kind, cases, FIELDS, [proved_words(line) for line in proved], theirs)
 
 
 def sample_case(name):
@@ -114,13 +107,7 @@ def sample_case(name):
 
 
 def compare_texts(length, pairs, driver=DRIVER):
-    """Holds the text in a buffer of that length to the front of the whole text, for cases with their answers."""
-    kind, cases = f"text in {length} bytes", [case for case, _ in pairs]
-    lines = comparing.answers(kind, [driver, "1024", "64", str(length)], cases)
-    for number, ((_, answer), line) in enumerate(zip(pairs, lines)):
-        found, expected = line.split()[3:], [answer["text"][: 2 * length] or "-", "kept"]
-        if found != expected:
-            comparing.blame(kind, cases, number, f"{found} and not {expected}")
+    comparing.agreed_texts(f"text in {length} bytes", [driver, "1024", "64", str(length)], pairs, length)
 
 
 @functools.cache
@@ -239,14 +226,8 @@ class Planted(unittest.TestCase):
             self.assertTrue(re.match(f"{name} at 0 is ", comparing.difference(FIELDS, words, other)))
 
 
-def add_tests(case, names):
-    """Each name becomes a test of its own, so that the gate counts it as one."""
-    for name in names:
-        setattr(case, f"test_{name.replace('-', '_')}", lambda self, name=name: self.held(name))
-
-
-add_tests(Check, check_cases.KINDS)
-add_tests(Planted, PLANTS)
+test_samples.add_tests(Check, check_cases.KINDS)
+test_samples.add_tests(Planted, PLANTS)
 
 if __name__ == "__main__":
     unittest.main()

@@ -1,4 +1,4 @@
-"""The front: its help, its demo, and that it proves once for given sources and never runs an old program."""
+"""The front: its help, its demo, and that it proves each program once for given sources and never runs an old one."""
 
 import os
 import shutil
@@ -17,7 +17,8 @@ RUNS, SECONDS = 5, 0.1
 
 
 def setUpModule():
-    test_program.build_program()
+    test_program.build_program("check")
+    test_program.build_program("run", *test_samples.run_files("chain.case9"))
 
 
 def front(*words, table=b"", path=FRONT, **how):
@@ -32,7 +33,8 @@ class Front(unittest.TestCase):
         status, out, said = front()
         self.assertEqual((status, said), (0, ""))
         self.assertTrue(out.startswith("usage: ./reefsplice COMMAND\n"))
-        for command in ("check < TABLE", "demo", "second-check < TABLE", "help"):
+        commands = ["check < TABLE", "run TABLE SCHEDULE", "demo"]
+        for command in (*commands, "second-check < TABLE", "second-run TABLE SCHEDULE", "help"):
             self.assertIn(f"\n  {command} ", out)
         self.assertEqual(front("help"), (0, out, ""))
 
@@ -58,20 +60,21 @@ class Front(unittest.TestCase):
         self.assertEqual(found, (0, test_samples.TABLE_5, ""))
 
     def test_demo_prints_every_sample(self):
-        expected = "Printed by the proved program:\n"
-        for path in sorted(test_samples.SAMPLES.glob("*.table"), key=lambda path: path.name):
-            expected += f"\n{path.stem}\n{path.with_suffix('.txt').read_text()}"
+        expected = "Printed by the proved programs:\n"
+        for ending in ("table", "schedule"):
+            for path in sorted(test_samples.SAMPLES.glob(f"*.{ending}"), key=lambda path: path.name):
+                expected += f"\n{path.stem}\n{path.with_suffix('.txt').read_text()}"
         self.assertEqual(front("demo", env=os.environ | {"LC_ALL": "C"}), (0, expected, ""))
 
 
-# Stands in for rt: it proves nothing, reads all that it is given, and makes a program that prints the source and its
-# input; a source that says `wrong` is not proved.
+# Stands in for rt: it proves nothing, reads all that it is given, and makes a program that prints the source, its
+# arguments and its input; a source that says `wrong` is not proved.
 RT = """#!/bin/sh
 echo "rt $*: $(cat)"
 mkdir -p target/bin
 ! grep -q wrong crates/a/src/lib.rt || exit 1
-printf '#!/bin/sh\\necho %s\\ncat\\n' "$(cat crates/a/src/lib.rt)" >target/bin/check_program
-chmod +x target/bin/check_program
+printf '#!/bin/sh\\necho %s "$@"\\ncat\\n' "$(cat crates/a/src/lib.rt)" >"target/bin/$2"
+chmod +x "target/bin/$2"
 """
 
 
@@ -91,15 +94,17 @@ class Building(unittest.TestCase):
         (self.tools / "rt").write_text(RT)
         (self.tools / "rt").chmod(0o755)
 
-    def check(self, source=None, tools=True):
-        """Gives the status, the text, and whether something was built."""
+    def call(self, *words, source=None, tools=True):
+        """Gives the status, the text, and whether the program was built."""
         if source:
             self.source.write_text(source)
         path = f"{self.tools}:{os.environ['PATH']}" if tools else os.defpath
-        status, out, said = front(
-            "check", table=b"input\n", path=self.home / "reefsplice", env=os.environ | {"PATH": path}
-        )
-        return status, out, "rt check check_program: \n" in said
+        how = {"path": self.home / "reefsplice", "env": os.environ | {"PATH": path}}
+        status, out, said = front(*words, table=b"input\n", **how)
+        return status, out, f"rt check {words[0]}_program: \n" in said
+
+    def check(self, source=None, tools=True):
+        return self.call("check", source=source, tools=tools)
 
     def test_built_once(self):
         self.assertEqual(self.check("one"), (0, "one\ninput\n", True))
@@ -137,13 +142,25 @@ class Building(unittest.TestCase):
             self.assertEqual(self.check("wrong"), (1, "", True))
         self.assertEqual(self.check("one"), (0, "one\ninput\n", True))
 
+    def test_each_program_is_built_by_itself(self):
+        run = ["run", "a table", "-n"]
+        self.assertEqual(self.check("one"), (0, "one\ninput\n", True))
+        self.assertEqual(self.call(*run), (0, "one a table -n\ninput\n", True))
+        self.assertEqual(self.call(*run, source="two"), (0, "two a table -n\ninput\n", True))
+        self.assertEqual(self.check(), (0, "two\ninput\n", True))
+        self.assertEqual(self.call(*run, tools=False), (0, "two a table -n\ninput\n", False))
+
+    def test_a_missing_argument_builds_nothing(self):
+        self.assertEqual(self.call("run", "table", source="one"), (2, "", False))
+
     def test_says_what_failed(self):
         self.source.write_text("wrong")
         environment = os.environ | {"PATH": f"{self.tools}:{os.environ['PATH']}"}
-        for command in ("check", "demo"):
-            status, out, said = front(command, path=self.home / "reefsplice", env=environment)
+        for words in (["check"], ["demo"], ["run", "table", "schedule"]):
+            status, out, said = front(*words, path=self.home / "reefsplice", env=environment)
             self.assertEqual((status, out), (1, ""))
-            self.assertIn("\nreefsplice: the check program is not proved", said)
+            name = "run" if words[0] == "run" else "check"
+            self.assertIn(f"\nreefsplice: the {name} program is not proved", said)
 
     def test_without_rt(self):
         self.assertEqual(self.check("one", tools=False), (1, "", False))

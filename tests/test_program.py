@@ -23,12 +23,12 @@ LONGEST = 16128
 def setUpModule():
     print(f"test_program: seed {SEED}", flush=True)
     test_samples.setUpModule()
-    build_program()
+    build_program("check")
 
 
-def build_program():
+def build_program(*words):
     """The first call proves and builds, so that each later one shows the program alone."""
-    done = subprocess.run([FRONT, "check"], input=b"", capture_output=True)
+    done = subprocess.run([FRONT, *words], input=b"", capture_output=True)
     if done.returncode != 0:
         raise RuntimeError(f"the front ended with status {done.returncode}: {done.stderr.decode()[-2000:]}")
 
@@ -111,9 +111,7 @@ class Seeded(unittest.TestCase):
                 comparing.blame("program", cases, number, f"the program: {found}, the second program: {expected}")
 
 
-for sample in sorted(path.stem for path in test_samples.SAMPLES.glob("*.table")):
-    # Each sample becomes a test of its own, so that the gate counts it as one.
-    setattr(Samples, f"test_{sample}", lambda self, name=sample: self.held(name))
+test_samples.add_tests(Samples, test_samples.named("table"))
 
 if __name__ == "__main__":
     unittest.main()

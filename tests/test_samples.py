@@ -1,5 +1,6 @@
 """The samples against the script that makes them, and the second program's answers on them against the rules page."""
 
+import re
 import subprocess
 import sys
 import tempfile
@@ -36,11 +37,13 @@ verdict stuck settled 1 stuck 2 stages 1 longest 2
 ring 2 3
 """
 
-# Cases 8 and 9: table, run's numbers, and the sums of vertices 1, 2 and 3.
-RUNS = {
-    "case8": ("disagree", "steps 2, ups 2, downs 0, last_change 2, rounds 0", [15, 16, 0]),
-    "case9": ("chain", "steps 5, ups 4, downs 1, last_change 5, rounds 1", [16, 16, 0]),
-}
+# What a run of case 9 prints, with the numbers and sums of the rules page.
+CASE_9 = """\
+run steps 5 ups 4 downs 1 last 5 rounds 1
+1 sum 16 rank 1 path 1 0
+2 sum 16 rank 1 path 2 1 0
+3 sum 0 none
+"""
 
 
 def setUpModule():
@@ -56,6 +59,16 @@ def sample(name):
     return (SAMPLES / name).read_bytes()
 
 
+def named(ending):
+    """The names of the samples of a kind."""
+    return sorted(path.stem for path in SAMPLES.glob(f"*.{ending}"))
+
+
+def run_files(name):
+    """The table and the schedule of a sample run, whose name begins with that of its table."""
+    return SAMPLES / f"{name.partition('.')[0]}.table", SAMPLES / f"{name}.schedule"
+
+
 class Samples(unittest.TestCase):
     def test_files_are_those_of_the_script(self):
         with tempfile.TemporaryDirectory() as folder:
@@ -65,17 +78,28 @@ class Samples(unittest.TestCase):
         self.assertEqual(kept, set(made))
         self.assertEqual([name for name in sorted(kept) if sample(name) != made[name]], [])
 
-    def test_each_table_has_its_printed_form(self):
-        tables, texts = ({path.stem for path in SAMPLES.glob(f"*.{ending}")} for ending in ("table", "txt"))
-        self.assertEqual(tables, texts)
+    def test_each_table_and_schedule_has_its_printed_form(self):
+        self.assertEqual(sorted(named("table") + named("schedule")), named("txt"))
 
     def test_table_5_is_as_the_rules_page_prints_it(self):
         self.assertEqual((SAMPLES / "shortcut.txt").read_text(), TABLE_5)
+
+    def test_case_9_is_as_the_rules_page_counts_it(self):
+        self.assertEqual((SAMPLES / "chain.case9.txt").read_text(), CASE_9)
+
+    def test_a_long_run_comes_to_what_the_check_says(self):
+        """The check of this table is complete, and the run has more rounds than stages times hops."""
+        checked, ran = ((SAMPLES / f"{name}.txt").read_text() for name in ("deep-63", "deep-63.downwards"))
+        settled, chosen = ([line.split()[3:] for line in text.splitlines()[1:]] for text in (checked, ran))
+        self.assertEqual(settled, chosen)
 
     def test_the_front_prints_the_second_program(self):
         words = [ROOT / "reefsplice", "second-check"]
         front = subprocess.run(words, input=sample("shortcut.table"), stdout=subprocess.PIPE, check=True)
         self.assertEqual(front.stdout.decode(), TABLE_5)
+        words = [ROOT / "reefsplice", "second-run", *run_files("chain.case9")]
+        front = subprocess.run(words, stdout=subprocess.PIPE, check=True)
+        self.assertEqual(front.stdout.decode(), CASE_9)
 
 
 class Check(unittest.TestCase):
@@ -96,24 +120,21 @@ class Case10(unittest.TestCase):
 
 
 class Run(unittest.TestCase):
-    """One test for each schedule: the run from zeros."""
+    """One test for each schedule: the printed form of its run from zeros."""
 
     def held(self, name):
-        table, numbers, sums = RUNS[name]
-        printed = second("run", SAMPLES / f"{table}.table", SAMPLES / f"{name}.schedule").splitlines()
-        sums = [0, *sums, *[0] * 60]
-        self.assertEqual(printed, numbers.split(", ") + [f"sum {v} {moved}" for v, moved in enumerate(sums)])
+        self.assertEqual(second("run", *run_files(name)), (SAMPLES / f"{name}.txt").read_text())
 
 
 def add_tests(case, names):
     """Each name becomes a test of its own, so that the gate counts it as one."""
     for name in names:
-        setattr(case, f"test_{name}", lambda self, name=name: self.held(name))
+        setattr(case, "test_" + re.sub(r"\W", "_", name), lambda self, name=name: self.held(name))
 
 
-add_tests(Check, sorted(path.stem for path in SAMPLES.glob("*.table")))
+add_tests(Check, named("table"))
 add_tests(Case10, CASE_10)
-add_tests(Run, RUNS)
+add_tests(Run, named("schedule"))
 
 if __name__ == "__main__":
     unittest.main()

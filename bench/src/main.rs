@@ -1,87 +1,39 @@
-//! The proved check and the second program's check on the same bytes in one process.
+//! The proved code and the second program on the same bytes in one process.
 //!
-//! `bench time BATCHES TABLE..` times both in turn and prints a line for each table: its numbers, the median
-//! nanoseconds of the proved reader alone and of one check by each, and the median of second/proved over the pairs of
-//! batches.
-//! `bench repeat reading|proved|second COUNT TABLE` makes so many checks and prints nothing, for counting instructions.
+//! `bench time BATCHES WORK..` times both in turn and prints a line: the table's records, the numbers of the answer,
+//! the median nanoseconds of the proved reader alone and of one call by each, and the median of second/proved over the
+//! pairs of batches.
+//! `bench repeat reading|proved|second COUNT WORK..` makes so many calls and prints nothing, for counting instructions.
+//! WORK is `check TABLE`, `run TABLE SCHEDULE`, or `step TABLE SCHEDULE`: its last pair, after those before it.
+
+mod probe;
+mod work;
 
 use std::env;
 use std::fs;
 use std::hint::black_box;
 use std::time::Instant;
 
-use second::limits::{RING_BYTES, ROWS_BYTES};
-use second::Verdict;
+use work::{Check, Run, Step, Who, Work};
 
-// Rattle passes a slice as a pointer, then its length.
-extern "C" {
-    fn probe_read(table: *const u8, table_length: usize) -> u64;
-    fn probe_check(
-        table: *const u8,
-        table_length: usize,
-        rows: *mut u8,
-        rows_length: usize,
-        ring: *mut u8,
-        ring_length: usize,
-    ) -> u64;
-}
+const USAGE: &str =
+    "usage: bench time BATCHES WORK.. | bench repeat reading|proved|second COUNT WORK..
+WORK: check TABLE | step TABLE SCHEDULE | run TABLE SCHEDULE";
 
 /// One batch takes at least so long, so that reading the clock weighs nothing.
 const BATCH_NANOSECONDS: f64 = 200_000.0;
 
-#[derive(Clone, PartialEq)]
-struct Lent {
-    rows: [u8; ROWS_BYTES],
-    ring: [u8; RING_BYTES],
-}
-
-type Check = fn(&[u8], &mut Lent) -> u64;
-
-fn proved(table: &[u8], lent: &mut Lent) -> u64 {
-    // SAFETY: the three slices are apart and live through the call, and the lengths are theirs.
-    unsafe {
-        probe_check(
-            table.as_ptr(),
-            table.len(),
-            lent.rows.as_mut_ptr(),
-            ROWS_BYTES,
-            lent.ring.as_mut_ptr(),
-            RING_BYTES,
-        )
-    }
-}
-
-/// The part of the proved check that every table pays for, to see where the time goes.
-fn reading(table: &[u8], _: &mut Lent) -> u64 {
-    // SAFETY: the slice lives through the call, and the length is its own.
-    unsafe { probe_read(table.as_ptr(), table.len()) }
-}
-
-fn second(table: &[u8], lent: &mut Lent) -> u64 {
-    match second::check(table, &mut lent.rows, &mut lent.ring).verdict {
-        Verdict::Refused(number, place) => u64::from(number) + 256 * u64::from(place),
-        _ => 0,
-    }
-}
-
-fn fresh() -> Lent {
-    Lent {
-        rows: [0; ROWS_BYTES],
-        ring: [0; RING_BYTES],
-    }
-}
-
-/// Makes so many checks, none of which the compiler can leave out.
-fn repeat(check: Check, count: usize, table: &[u8], lent: &mut Lent) {
+/// Makes so many calls, none of which the compiler can leave out.
+fn repeat(work: &mut impl Work, who: Who, count: usize) {
     for _ in 0..count {
-        black_box(check(black_box(table), black_box(lent)));
+        black_box(black_box(&mut *work).call(who));
     }
 }
 
-/// Nanoseconds of one check, over a batch.
-fn batch(check: Check, count: usize, table: &[u8], lent: &mut Lent) -> f64 {
+/// Nanoseconds of one call, over a batch.
+fn batch(work: &mut impl Work, who: Who, count: usize) -> f64 {
     let start = Instant::now();
-    repeat(check, count, table, lent);
+    repeat(work, who, count);
     start.elapsed().as_nanos() as f64 / count as f64
 }
 
@@ -90,18 +42,17 @@ fn median(mut numbers: Vec<f64>) -> f64 {
     numbers[numbers.len() / 2]
 }
 
-/// The median times of `reading`, `proved` and `second`, then the ratio.
-fn time(batches: usize, table: &[u8]) -> [f64; 4] {
-    let mut lent = fresh();
-    let checks: [Check; 3] = [reading, proved, second];
-    let counts = checks.map(|check| {
-        let once = batch(check, 20, table, &mut lent);
+/// The median times of `Reading`, `Proved` and `Second`, then the ratio.
+fn time(work: &mut impl Work, batches: usize) -> [f64; 4] {
+    let all = [Who::Reading, Who::Proved, Who::Second];
+    let counts = all.map(|who| {
+        let once = batch(work, who, 20);
         (BATCH_NANOSECONDS / once).ceil() as usize
     });
     let mut times = [vec![], vec![], vec![]];
     for _ in 0..batches {
-        for which in 0..checks.len() {
-            times[which].push(batch(checks[which], counts[which], table, &mut lent));
+        for which in 0..all.len() {
+            times[which].push(batch(work, all[which], counts[which]));
         }
     }
     let ratios = times[1].iter().zip(&times[2]).map(|(ours, its)| its / ours);
@@ -111,54 +62,59 @@ fn time(batches: usize, table: &[u8]) -> [f64; 4] {
 }
 
 /// A time of a wrong answer means nothing, so both must agree first.
-fn agree(name: &str, table: &[u8]) {
-    let (mut ours, mut theirs) = (fresh(), fresh());
-    let codes = (proved(table, &mut ours), second(table, &mut theirs));
-    assert!(
-        codes.0 == codes.1 && ours == theirs,
-        "{name}: the two differ"
+fn agree(work: &impl Work) {
+    let (mut ours, mut theirs) = (work.clone(), work.clone());
+    let codes = (ours.call(Who::Proved), theirs.call(Who::Second));
+    assert!(codes.0 == codes.1 && ours == theirs, "the two differ");
+}
+
+fn print_line(mut work: impl Work, batches: usize) {
+    agree(&work);
+    let [read, ours, theirs, ratio] = time(&mut work, batches);
+    println!(
+        "{} {} {read:.0} {ours:.0} {theirs:.0} {ratio:.2}",
+        work.records(),
+        work.numbers(),
     );
 }
 
-fn print_line(name: &str, table: &[u8], batches: usize) {
-    agree(name, table);
-    let mut lent = fresh();
-    let answer = second::check(table, &mut lent.rows, &mut lent.ring);
-    let [read, ours, theirs, ratio] = time(batches, table);
-    println!(
-        "{} {} {} {} {} {read:.0} {ours:.0} {theirs:.0} {ratio:.2}",
-        table.len() / 16,
-        answer.stages,
-        answer.longest,
-        answer.settled,
-        answer.stuck,
-    );
+/// What the first words of the command line ask for.
+enum Task {
+    Time(usize),
+    Repeat(Who, usize),
+}
+
+fn do_task(task: Task, mut work: impl Work) {
+    match task {
+        Task::Time(batches) => print_line(work, batches),
+        Task::Repeat(who, count) => repeat(&mut work, who, count),
+    }
+}
+
+fn who(name: &str) -> Who {
+    match name {
+        "reading" => Who::Reading,
+        "proved" => Who::Proved,
+        "second" => Who::Second,
+        _ => panic!("{USAGE}"),
+    }
 }
 
 fn main() {
     let arguments: Vec<String> = env::args().skip(1).collect();
     let arguments: Vec<&str> = arguments.iter().map(String::as_str).collect();
-    match arguments[..] {
-        ["time", batches, ref tables @ ..] => {
-            for name in tables {
-                print_line(name, &fs::read(name).unwrap(), batches.parse().unwrap());
-            }
+    let (task, work) = match arguments[..] {
+        ["time", batches, ref work @ ..] => (Task::Time(batches.parse().unwrap()), work),
+        ["repeat", name, count, ref work @ ..] => {
+            (Task::Repeat(who(name), count.parse().unwrap()), work)
         }
-        ["repeat", which, count, table] => {
-            let check = match which {
-                "reading" => reading,
-                "proved" => proved,
-                _ => second,
-            };
-            repeat(
-                check,
-                count.parse().unwrap(),
-                &fs::read(table).unwrap(),
-                &mut fresh(),
-            );
-        }
-        _ => panic!(
-            "usage: bench time BATCHES TABLE.. | bench repeat reading|proved|second COUNT TABLE"
-        ),
+        _ => panic!("{USAGE}"),
+    };
+    let file = |name: &str| fs::read(name).unwrap();
+    match *work {
+        ["check", table] => do_task(task, Check::new(file(table))),
+        ["step", table, schedule] => do_task(task, Step::last_of(file(table), &file(schedule))),
+        ["run", table, schedule] => do_task(task, Run::from_zeros(file(table), file(schedule))),
+        _ => panic!("{USAGE}"),
     }
 }

@@ -4,8 +4,9 @@
 use std::io::{self, BufRead, Write};
 
 use crate::check::{check, Answer, Verdict};
-use crate::limits::{RING_BYTES, ROWS_BYTES, VERTICES};
-use crate::print::check_text;
+use crate::limits::VERTICES;
+use crate::lines::{each_case, hex};
+use crate::print::check_program_text;
 use crate::refusal::Refusal;
 use crate::table::Table;
 
@@ -14,7 +15,7 @@ const EMPTY_SLOT: &[u8] = b"65535";
 
 /// Answers every line of the input with one line of output, as the reader.
 pub fn batch(input: impl BufRead, output: impl Write) -> io::Result<()> {
-    each_table(input, output, |table, output| write_case(table, output))
+    each_case(input, output, |[table], output| write_case(table, output))
 }
 
 /// Answers every line of the input with one line of output, as the check with
@@ -25,49 +26,9 @@ pub fn check_batch(
     rows_bytes: usize,
     ring_bytes: usize,
 ) -> io::Result<()> {
-    each_table(input, output, |table, output| {
+    each_case(input, output, |[table], output| {
         write_check(table, rows_bytes, ring_bytes, output)
     })
-}
-
-/// Hands the table of every line to `answer`.
-fn each_table<W: Write>(
-    mut input: impl BufRead,
-    mut output: W,
-    answer: impl Fn(&[u8], &mut W) -> io::Result<()>,
-) -> io::Result<()> {
-    let mut line = Vec::new();
-    let mut table = Vec::new();
-    while input.read_until(b'\n', &mut line)? > 0 {
-        decode_hex(line.strip_suffix(b"\n").unwrap_or(&line), &mut table)?;
-        answer(&table, &mut output)?;
-        line.clear();
-    }
-    output.flush()
-}
-
-/// Replaces the bytes of `table` by those that the hex digits stand for.
-fn decode_hex(digits: &[u8], table: &mut Vec<u8>) -> io::Result<()> {
-    table.clear();
-    for pair in digits.chunks(2) {
-        match *pair {
-            [high, low] => table.push(16 * digit(high)? + digit(low)?),
-            _ => return Err(bad_input("an odd number of hex digits")),
-        }
-    }
-    Ok(())
-}
-
-fn digit(byte: u8) -> io::Result<u8> {
-    match byte {
-        b'0'..=b'9' => Ok(byte - b'0'),
-        b'a'..=b'f' => Ok(byte - b'a' + 10),
-        _ => Err(bad_input("not a lowercase hex digit")),
-    }
-}
-
-fn bad_input(message: &str) -> io::Error {
-    io::Error::new(io::ErrorKind::InvalidData, message)
 }
 
 fn write_case(table: &[u8], output: &mut impl Write) -> io::Result<()> {
@@ -119,7 +80,7 @@ fn write_check(
     let (code, ring_length) = match answer.verdict {
         Verdict::Complete => (0, 0),
         Verdict::Stuck(length) => (0, length),
-        Verdict::Refused(number, place) => (u64::from(number) + 256 * u64::from(place), 0),
+        Verdict::Refused(number, place) => (Refusal { number, place }.code(), 0),
     };
     let Answer {
         settled,
@@ -132,7 +93,7 @@ fn write_check(
         output,
         "{code} {ring_length} {settled} {stuck} {stages} {longest}"
     )?;
-    for bytes in [&rows, &ring, program_text(table).as_bytes()] {
+    for bytes in [&rows, &ring, check_program_text(table).as_bytes()] {
         write!(output, " {}", hex(bytes))?;
     }
     output.write_all(b"\n")
@@ -142,20 +103,4 @@ fn write_check(
 /// change shows, and one that only moves bytes too.
 fn marked(length: usize) -> Vec<u8> {
     (0..length).map(|at| (165 + 7 * at) as u8).collect()
-}
-
-/// The check program lends buffers of the right lengths by itself.
-fn program_text(table: &[u8]) -> String {
-    let mut rows = [0; ROWS_BYTES];
-    let mut ring = [0; RING_BYTES];
-    let answer = check(table, &mut rows, &mut ring);
-    check_text(&answer, &rows, &ring)
-}
-
-/// Two digits for each byte; no bytes are a dash, so that no field is empty.
-fn hex(bytes: &[u8]) -> String {
-    match bytes {
-        [] => "-".to_string(),
-        _ => bytes.iter().map(|byte| format!("{byte:02x}")).collect(),
-    }
 }

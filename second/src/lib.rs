@@ -10,6 +10,8 @@ pub mod check;
 pub mod greedy;
 pub mod heard;
 pub mod limits;
+pub mod lines;
+pub mod machine_batch;
 pub mod path;
 pub mod print;
 pub mod record;

@@ -1,21 +1,20 @@
-//! The program: `check`, `reader`, `batch`, `check-batch` and `run` on the
-//! command line.
+//! The program: `check`, `reader`, `run` and the batches on the command line.
 
 use std::env;
 use std::fs::File;
 use std::io::{self, BufRead, BufReader, BufWriter, Read, Write};
 use std::process::ExitCode;
 
-use second::limits::{
-    HEARD_BYTES, MAX_SCHEDULE_BYTES, MAX_TABLE_BYTES, RING_BYTES, ROWS_BYTES, VERTICES,
-};
-use second::print::{check_text, refusal_text, run_text};
-use second::{batch, Table};
+use second::limits::{MAX_SCHEDULE_BYTES, MAX_TABLE_BYTES, RING_BYTES, ROWS_BYTES};
+use second::print::{check_program_text, refusal_text, run_program_text};
+use second::{batch, machine_batch, Table};
 
 const USAGE: &str = "usage: second check < TABLE
        second reader < TABLE
        second batch < CASES
        second check-batch [ROWS RING] < CASES
+       second step-batch < CASES
+       second run-batch < CASES
        second run TABLEFILE SCHEDULEFILE";
 
 fn main() -> ExitCode {
@@ -27,6 +26,8 @@ fn main() -> ExitCode {
         ["batch"] => batch::batch(cases(), answers()),
         ["check-batch"] => batch::check_batch(cases(), answers(), ROWS_BYTES, RING_BYTES),
         ["check-batch", rows, ring] => check_cases(rows, ring),
+        ["step-batch"] => machine_batch::step_batch(cases(), answers()),
+        ["run-batch"] => machine_batch::run_batch(cases(), answers()),
         ["run", table, schedule] => run(table, schedule),
         _ => Err(io::Error::new(io::ErrorKind::InvalidInput, USAGE)),
     };
@@ -53,10 +54,7 @@ fn print(text: &str) -> io::Result<()> {
 
 fn check() -> io::Result<()> {
     let table = read_limited(io::stdin().lock(), MAX_TABLE_BYTES)?;
-    let mut rows = [0; ROWS_BYTES];
-    let mut ring = [0; RING_BYTES];
-    let answer = second::check(&table, &mut rows, &mut ring);
-    print(&check_text(&answer, &rows, &ring))
+    print(&check_program_text(&table))
 }
 
 fn reader() -> io::Result<()> {
@@ -86,10 +84,5 @@ fn check_cases(rows: &str, ring: &str) -> io::Result<()> {
 fn run(table_file: &str, schedule_file: &str) -> io::Result<()> {
     let table = read_limited(File::open(table_file)?, MAX_TABLE_BYTES)?;
     let schedule = read_limited(File::open(schedule_file)?, MAX_SCHEDULE_BYTES)?;
-    let mut state = [0; HEARD_BYTES];
-    let mut sums = [0; VERTICES];
-    match second::run(&table, &mut state, &schedule, &mut sums) {
-        Ok(numbers) => print(&run_text(&numbers, &sums)),
-        Err(refusal) => print(&refusal_text(refusal)),
-    }
+    print(&run_program_text(&table, &schedule))
 }

@@ -1,12 +1,21 @@
-//! The printed forms ("Tables tried by hand").
+//! The printed forms of the check ("Tables tried by hand") and of the run.
 
-use std::fmt::Write;
-
-use crate::check::{Answer, Verdict};
-use crate::limits::UNUSED;
+use crate::check::{check, Answer, Verdict};
+use crate::heard::choice;
+use crate::limits::{HEARD_BYTES, RING_BYTES, ROWS_BYTES, UNUSED, VERTICES};
+use crate::path::RankedPath;
 use crate::refusal::Refusal;
 use crate::rows::{ABSENT, ROW_BYTES, STUCK};
-use crate::run::RunNumbers;
+use crate::run::run;
+use crate::table::Table;
+
+/// What the check program prints for a table.
+pub fn check_program_text(table: &[u8]) -> String {
+    let mut rows = [0; ROWS_BYTES];
+    let mut ring = [0; RING_BYTES];
+    let answer = check(table, &mut rows, &mut ring);
+    check_text(&answer, &rows, &ring)
+}
 
 /// The check as the check program prints it, every line with its newline.
 pub fn check_text(answer: &Answer, rows: &[u8], ring: &[u8]) -> String {
@@ -67,15 +76,33 @@ pub fn refusal_text(refusal: Refusal) -> String {
     }
 }
 
-/// The numbers of a run and then each vertex's sum, one per line.
-pub fn run_text(numbers: &RunNumbers, sums: &[i32]) -> String {
+/// What the run program prints for a table and a schedule, from all zeros.
+pub fn run_program_text(table: &[u8], schedule: &[u8]) -> String {
+    run_text(table, schedule).unwrap_or_else(refusal_text)
+}
+
+/// The numbers of the run, then a line for each present vertex but 0.
+fn run_text(table: &[u8], schedule: &[u8]) -> Result<String, Refusal> {
+    let mut state = [0; HEARD_BYTES];
+    let mut sums = [0; VERTICES];
+    let numbers = run(table, &mut state, schedule, &mut sums)?;
+    let table = Table::read(table)?;
     let mut text = format!(
-        "steps {}\nups {}\ndowns {}\nlast_change {}\nrounds {}\n",
+        "run steps {} ups {} downs {} last {} rounds {}\n",
         numbers.steps, numbers.ups, numbers.downs, numbers.last_change, numbers.rounds
     );
-    for (vertex, sum) in sums.iter().enumerate() {
-        // Writing to a String cannot fail.
-        let _ = writeln!(text, "sum {vertex} {sum}");
+    for vertex in (1..VERTICES).filter(|&vertex| table.present()[vertex]) {
+        let rank = choice(&table, &state, vertex);
+        let path = rank.and_then(|rank| table.path_with_rank(vertex, rank));
+        text += &format!("{vertex} sum {}{}\n", sums[vertex], path_text(path));
     }
-    text
+    Ok(text)
+}
+
+/// The rank and the vertices of a path, or that there is none.
+fn path_text(path: Option<RankedPath>) -> String {
+    match path {
+        None => " none".to_string(),
+        Some(path) => format!(" rank {} path{}", path.rank, vertices_text(path.vertices)),
+    }
 }

@@ -42,4 +42,8 @@ impl Refusal {
     pub fn whole(reason: Reason) -> Self {
         Refusal::at(reason, 0)
     }
+    /// The return value of a C entry ("What is built").
+    pub fn code(self) -> u64 {
+        u64::from(self.number) + 256 * u64::from(self.place)
+    }
 }

@@ -122,18 +122,72 @@ fn check_batch_refuses_other_lengths_first() {
     }
 }
 
+const CASE_9: [(u8, u8); 5] = [(2, 0), (3, 2), (1, 0), (2, 1), (3, 2)];
+
+const CASE_9_TEXT: &str = "run steps 5 ups 4 downs 1 last 5 rounds 1
+1 sum 16 rank 1 path 1 0
+2 sum 16 rank 1 path 2 1 0
+3 sum 0 none
+";
+
+/// The numbers of a lent buffer of sums, each 7, as `run-batch` reads them.
+fn sevens(count: usize) -> String {
+    "07000000".repeat(count)
+}
+
+#[test]
+fn step_batch_answers_one_line_for_each_case() {
+    let [table, zeros] = [&table_7(), &zeros()].map(|bytes| hex(bytes));
+    let cases = format!("{table} {zeros} 0200\n{table} {zeros} 0002\n{table}  0200\n");
+    let printed = program(&["step-batch"], cases.as_bytes());
+    let mut stored = common::zeros();
+    stored[64 * 2] = 1;
+    let expected = [
+        format!("0 15 {}", hex(&stored)),
+        format!("14 0 {zeros}"),
+        "1 0 -".to_string(),
+    ];
+    assert_eq!(printed.lines().collect::<Vec<_>>(), expected);
+}
+
+#[test]
+fn run_batch_answers_one_line_for_each_case() {
+    let [table, zeros, pairs] = [&table_7(), &zeros(), &schedule(&CASE_9)].map(|bytes| hex(bytes));
+    let start = format!("{table} {zeros}");
+    let cases = [
+        format!("{start} {pairs} {}", sevens(64)),
+        format!("{start} 0001 {}", sevens(64)),
+        format!("{start}  "),
+    ];
+    let printed = program(&["run-batch"], cases.join("\n").as_bytes());
+    let mut heard = common::zeros();
+    (
+        heard[64],
+        heard[64 * 2],
+        heard[64 * 2 + 1],
+        heard[64 * 3 + 2],
+    ) = (1, 1, 1, 1);
+    let (sums, text) = (
+        ["0,16,16", &",0".repeat(61)].concat(),
+        hex(CASE_9_TEXT.as_bytes()),
+    );
+    let refused = hex(b"refused 14 pair 0\n");
+    let unmoved = "1 sum 0 none\n2 sum 0 none\n3 sum 0 none\n";
+    let unmoved = format!("run steps 0 ups 0 downs 0 last 0 rounds 0\n{unmoved}");
+    let expected = [
+        format!("0 5 4 1 5 1 {} {sums} {text}", hex(&heard)),
+        format!("14 0 0 0 0 0 {zeros} {}7 {refused}", "7,".repeat(63)),
+        format!("1 0 0 0 0 0 {zeros} - {}", hex(unmoved.as_bytes())),
+    ];
+    assert_eq!(printed.lines().collect::<Vec<_>>(), expected);
+}
+
 #[test]
 fn run_prints_case_9() {
     let table = file("case_9_table", &table_7());
-    let pairs = schedule(&[(2, 0), (3, 2), (1, 0), (2, 1), (3, 2)]);
-    let pairs = file("case_9_schedule", &pairs);
+    let pairs = file("case_9_schedule", &schedule(&CASE_9));
     let arguments = ["run", table.to_str().unwrap(), pairs.to_str().unwrap()];
-    let printed = program(&arguments, &[]);
-    let lines: Vec<&str> = printed.lines().collect();
-    assert_eq!(lines.len(), 5 + 64);
-    let numbers = ["steps 5", "ups 4", "downs 1", "last_change 5", "rounds 1"];
-    assert_eq!(lines[..5], numbers);
-    assert_eq!(lines[5..9], ["sum 0 0", "sum 1 16", "sum 2 16", "sum 3 0"]);
+    assert_eq!(program(&arguments, &[]), CASE_9_TEXT);
 }
 
 #[test]

@@ -61,7 +61,7 @@ choice-same paths one two v a b e f =
     let d = choice paths two v in
     by-equal a b
     (λ q. let z : c ≡ d = sym (byte-tells paths v c (choice-spoken paths one v)) ∙ ap (pathFor paths v) (sym e ∙ q ∙ f)
-        ∙ byte-tells paths v d (choice-spoken paths two v) in
+    ∙ byte-tells paths v d (choice-spoken paths two v) in
     eq-eqb a b q ∙ sym (ap (same c) (sym z) ∙ same-refl c))
     (λ q. ne-eqb a b q ∙ sym (differ c d (λ z. q (e ∙ ap (byteFor paths v) z ∙ sym f))))
 
@@ -194,9 +194,9 @@ module _ (t start schedule : List ℕ) (sumsLent : List ℤ) (r : Ready t start 
           let b = standing paths start v in
           let new = getD sums v (pos 0) +ℤ m in
           let e : new ≡ pos a -ℤ pos b =
-              sym (getD-set-same sums v new (pos 0) (omega (arith, g .longSums, going-worked .listener)))
-              ∙ ap (λ (l : List ℤ). getD l v (pos 0)) (sums-next (set sums v new) refl)
-              ∙ telescoped-next .sum v ∙ ap (λ c. c +ℤ pos a -ℤ pos b) (alike-at 64 v (pos 0)) ∙ ap (λ c. c -ℤ pos b) (+ℤ-idl (pos a)) in
+          sym (getD-set-same sums v new (pos 0) (omega (arith, g .longSums, going-worked .listener)))
+          ∙ ap (λ (l : List ℤ). getD l v (pos 0)) (sums-next (set sums v new) refl)
+          ∙ telescoped-next .sum v ∙ ap (λ c. c +ℤ pos a -ℤ pos b) (alike-at 64 v (pos 0)) ∙ ap (λ c. c -ℤ pos b) (+ℤ-idl (pos a)) in
           rw e (difference-most a b 16 (standing-most paths (tallyAt t start schedule (i + 1) .heard) v) (standing-most paths start v))
 
       -- the last change
@@ -208,9 +208,9 @@ module _ (t start schedule : List ℕ) (sumsLent : List ℤ) (r : Ready t start 
       changed-next number lastNow ne le =
           let y = tallyAt t start schedule i in
           let kept : eqb old new ≡ same (choice paths (y .heard) v) (choice paths (step paths (y .heard) pair) v) =
-              choice-same paths heard after v old new was now
-              ∙ ap (λ (x : List ℕ). same (choice paths heard v) (choice paths x v)) stepped
-              ∙ ap (λ (x : List ℕ). same (choice paths x v) (choice paths (step paths x pair) v)) (g .state) in
+          choice-same paths heard after v old new was now
+          ∙ ap (λ (x : List ℕ). same (choice paths heard v) (choice paths x v)) stepped
+          ∙ ap (λ (x : List ℕ). same (choice paths x v) (choice paths (step paths x pair) v)) (g .state) in
           let count : number ≡ suc (y .steps) = omega (arith, tally-count) in
           le ∙ ap (λ (b : Bool). latest b last number) kept
           ∙ ap (λ x. latest (same (choice paths (y .heard) v) (choice paths (step paths (y .heard) pair) v)) x number) (g .changed)
@@ -241,7 +241,7 @@ module _ (t start schedule : List ℕ) (sumsLent : List ℤ) (r : Ready t start 
         stamped-next =
             let since : ℕ → List ℕ = λ k. elim (closes (listeningOffsets paths) (seen k)) [ true ↦ [] | false ↦ seen k ] in
             let e : since (v * 64 + u) ≡ tallyAt t start schedule (i + 1) .since =
-                ap since same-offset ∙ sym (ap (λ (z : Tally). z .since) tally-on) in
+            ap since same-offset ∙ sym (ap (λ (z : Tally). z .since) tally-on) in
             rw (← e) (stamped-on paths stamps closed missing (tallyAt t start schedule i .since) (g .stamped) (v * 64 + u)
             (newlyAt stamps (v * 64 + u) (closed + 1)) at-small heard-at refl _ refl stampsNow closedNow missingNow all te qe me ae)
 

@@ -17,3 +17,4 @@ pub mod StepLaws
 pub mod Going
 pub mod Ran
 pub mod GoingLaws
+pub mod RanLaws

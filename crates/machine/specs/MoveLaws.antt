@@ -20,6 +20,10 @@ pub small-fits : (z : ℤ) → natAbs z ≤ 16 → SFits w32 z
 small-fits (pos n) h = record { sfits = omega arith }
 small-fits (negsuc n) h = record { sfits = omega arith }
 
+-- and is read back from its bits
+pub small-told : (z d : ℤ) → natAbs d ≤ 16 → z ≡ d → toZ w32 (ofZ w32 z) ≡ d
+small-told z d h e = rw e (toZ-ofZ {w = w32} (small-fits d h))
+
 -- standings
 pub standing-zero : (r : ℕ) → r ≡ 0 → 0 ≡ standingOf r
 unfolding standingOf
@@ -30,24 +34,24 @@ unfolding standingOf
 standing-more zero f = absurd (f refl)
 standing-more (suc r) f = omega arith
 
--- a standing is read back from its bits
-standing-told : (a r : ℕ) → a ≡ standingOf r → toZ w32 a ≡ pos (standingOf r)
-standing-told a r e =
-    let h : natAbs (pos a) ≤ 16 = omega (arith, standing-of-most r) in toZ-ofZ {w = w32} {z = pos a} (small-fits (pos a) h) ∙ ap pos e
+-- the difference of two standings is small
+pub moves-small : (old new : ℕ) → natAbs (pos (standingOf new) -ℤ pos (standingOf old)) ≤ 16
+moves-small old new = difference-most (standingOf new) (standingOf old) 16 (standing-of-most new) (standing-of-most old)
 
--- so a movement is the difference of the standings
+-- so a movement is that of the standings
 module _ (old new a b : ℕ) (e : a ≡ standingOf new) (f : b ≡ standingOf old) where
   difference : toZ w32 a -ℤ toZ w32 b ≡ pos (standingOf new) -ℤ pos (standingOf old)
-  difference = rw (standing-told a new e, standing-told b old f)
+  difference =
+      rw (
+        small-told (pos a) (pos (standingOf new)) (standing-of-most new) (ap pos e),
+        small-told (pos b) (pos (standingOf old)) (standing-of-most old) (ap pos f),
+      )
 
   pub move-fits : SFits w32 (toZ w32 a -ℤ toZ w32 b)
-  move-fits =
-      let c = standingOf new in
-      let d = standingOf old in
-      rw difference (small-fits (pos c -ℤ pos d) (difference-most c d 16 (standing-of-most new) (standing-of-most old)))
+  move-fits = rw difference (small-fits (pos (standingOf new) -ℤ pos (standingOf old)) (moves-small old new))
 
   pub move-told : toZ w32 (ofZ w32 (toZ w32 a -ℤ toZ w32 b)) ≡ pos (standingOf new) -ℤ pos (standingOf old)
-  move-told = toZ-ofZ {w = w32} move-fits ∙ difference
+  move-told = small-told (toZ w32 a -ℤ toZ w32 b) _ (moves-small old new) difference
 
 -- storing what the speaker says is the step
 pub says-step : (paths : ℕ → List Path) (heard : List ℕ) (v u said : ℕ) → Says paths heard v u said

@@ -19,7 +19,7 @@ use Rattle.lists.specs.FillLaws.{tabulate-at}
 use Rattle.rules.specs.Table.{Path, listensAt}
 use Rattle.rules.specs.Run.{more, listeningOffsets, closes}
 use Rattle.rules.specs.RoundLaws.{closes-count}
-use Rattle.machine.specs.Rounds.{markCount, newlyAt, missingAfter, missingFrom, Stamped}
+use Rattle.machine.specs.Rounds.{markCount, newlyAt, missingAfter, leftAfter, missingFrom, Stamped}
 
 -- the count of the marks, at the start and where it has come to k
 
@@ -54,6 +54,16 @@ module _ (stamps : List ℕ) (at number : ℕ) where
   pub newly-new : getD stamps at 0 ≢ number → 1 ≡ newlyAt stamps at number
   unfolding newlyAt
   newly-new f = rw (ne-eqb (getD stamps at 0) number f, newlyAt)
+
+-- what is left, from the answer
+module _ (stamps : List ℕ) (at closed missing new : ℕ) (e : new ≡ newlyAt stamps at (closed + 1)) where
+  pub left-closed : (r : ℕ) → r ≡ more (eqb (missing - new) 0) closed → r ≡ more (eqb (leftAfter stamps at closed missing) 0) closed
+  unfolding leftAfter
+  left-closed r q = q ∙ ap (λ n. more (eqb (missing - n) 0) closed) e
+
+  pub left-missing : (r all : ℕ) → r ≡ missingAfter (missing - new) all → r ≡ missingAfter (leftAfter stamps at closed missing) all
+  unfolding leftAfter
+  left-missing r all q = q ∙ ap (λ n. missingAfter (missing - n) all) e
 
 -- where none is left all are missing again
 pub missing-none : (left all : ℕ) → left ≡ 0 → all ≡ missingAfter left all

@@ -9,7 +9,6 @@ use native.Mathlib.Omega.{arith}
 use lib.ListN.{length, replicate}
 use lib.IntN.{ℤ, pos, _-ℤ_}
 use mir.Val.{toZ, ofZ}
-use mir.Facts.{toZ-ofZ}
 use mir.Syntax.{w32}
 use Rattle.lists.specs.Fill.{tabulate}
 use Rattle.rules.specs.Table.{Path, pathsOf, present, listens, listensAt}
@@ -26,7 +25,7 @@ use Rattle.answer.specs.Moves.{stepRefusalIn, movementIn}
 use Rattle.state.specs.Judged.{badOffset, marksPair}
 use Rattle.state.specs.JudgedLaws.{fault-none, fault-some, marks-listen}
 use Rattle.machine.specs.Moves.{Says, Worked}
-use Rattle.machine.specs.MoveLaws.{small-fits}
+use Rattle.machine.specs.MoveLaws.{small-told}
 use Rattle.machine.specs.Stepped.{Stepped}
 
 -- a listener's byte is its rank
@@ -73,7 +72,7 @@ module _ (t heard : List ℕ) (v u : ℕ) (w : Worked t heard v u) where
 -- a movement is read back from its bits
 pub moved-told : (paths : ℕ → List Path) (heard : List ℕ) (p : Pair) (m : ℤ) → m ≡ movement paths heard p
     → toZ w32 (ofZ w32 m) ≡ movement paths heard p
-moved-told paths heard p m e = rw e (toZ-ofZ {w = w32} (small-fits (movement paths heard p) (movement-most paths heard p)))
+moved-told paths heard p m e = small-told m (movement paths heard p) (movement-most paths heard p) e
 
 -- a listening pair can be worked
 pub listening-worked : (t heard : List ℕ) (v u : ℕ) → refusal t ≡ none → length heard ≡ 4096 → listens (pathsOf t) v u ≡ true → Worked t heard v u

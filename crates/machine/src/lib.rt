@@ -2,17 +2,21 @@
 mod asked;
 mod choice;
 mod counts;
+mod judged;
 mod moves;
 mod pair;
 mod rounds;
 mod work;
 
 ghost use mathlib.Core.Path.{_≡_};
-ghost use Rattle.rules.specs.Answers.{choicesIn, stepRefusal, stepMovement, heardAfterStep};
-ghost use Rattle.answer.specs.Moves.{stepRefusalIn, movementIn};
+ghost use Rattle.rules.specs.Answers.{choicesIn, stepRefusal, stepMovement, heardAfterStep, runRefusal, runNumbers, heardAfterRun, sumsAfterRun};
+ghost use Rattle.answer.specs.Moves.{stepRefusalIn, movementIn, runRefusalIn, runNumbersIn};
 use crate::asked::asked_in;
 use crate::choice::choice_bytes;
+use crate::judged::refusal_of;
+use crate::judged::run_accepted;
 use crate::pair::step_accepted;
+use answer::RunAnswer;
 use answer::StepAnswer;
 use facts::slots_of;
 use reader::Reading;
@@ -44,4 +48,24 @@ pub fn step(table: &[u8], heard: &mut [u8], listener: u8, speaker: u8) -> StepAn
         return step_accepted(table, heard, listener, speaker);
     };
     StepAnswer::Refused(number, place)
+}
+
+// Works a schedule, and answers what it counted and each vertex's sum; a refused call changes no byte.
+pub fn run(table: &[u8], heard: &mut [u8], schedule: &[u8], sums: &mut [i32]) -> RunAnswer
+    ensures refusal { λ r. ⌜ runRefusalIn (r .verdict) ≡ runRefusal (now (table .entry)) (now (heard .entry)) (now (schedule .entry)) (now (sums .entry)) ⌝ }
+    ensures numbers { λ r. ⌜ runNumbersIn r ≡ runNumbers (now (table .entry)) (now (heard .entry)) (now (schedule .entry)) (now (sums .entry)) ⌝ }
+    ensures heard { λ r. ⌜ now (heard .exit) ≡ heardAfterRun (now (table .entry)) (now (heard .entry)) (now (schedule .entry)) (now (sums .entry)) ⌝ }
+    ensures sums { λ r. ⌜ now (sums .exit) ≡ sumsAfterRun (now (table .entry)) (now (heard .entry)) (now (schedule .entry)) (now (sums .entry)) ⌝ }
+{
+    if heard.len() != 4096 {
+        return refusal_of(1, 0);
+    }
+    if sums.len() != 64 {
+        return refusal_of(1, 0);
+    }
+    let reading = read(table);
+    let Reading::Refused(number, place) = reading else {
+        return run_accepted(table, heard, schedule, sums);
+    };
+    refusal_of(number, place)
 }

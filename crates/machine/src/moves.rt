@@ -11,7 +11,15 @@ ghost use Rattle.machine.specs.Moves.{Says};
 use crate::choice::choice_byte;
 
 // Stores what u says at 64v+u, and answers the byte of v's choice then.
-pub(crate) fn hear(t: &[u8], row: [u16; 16], asked: [u8; 16], heard: &mut [u8], v: usize, u: usize, said: u8) -> u8
+pub(crate) fn hear(
+    t: &[u8],
+    row: [u16; 16],
+    asked: [u8; 16],
+    heard: &mut [u8],
+    v: usize,
+    u: usize,
+    said: u8,
+) -> u8
     requires { ⌜ SlotRow (now t) v row × (asked ≡ askedRow (pathsOf (now t)) v) × Says (pathsOf (now t)) (now heard) v u said ⌝ }
     ensures heard { λ r. ⌜ now (heard .exit) ≡ step (pathsOf (now (t .entry))) (now (heard .entry)) (record { listener = v; speaker = u }) ⌝ }
     ensures chosen { λ r. ⌜ r ≡ byteFor (pathsOf (now (t .entry))) v (choice (pathsOf (now (t .entry))) (now (heard .exit)) v) ⌝ }

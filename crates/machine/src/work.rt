@@ -38,7 +38,15 @@ fn answer_of(steps: usize, counts: Counts, rounds: Rounds) -> RunAnswer
 }
 
 // Works the pairs one after the other; the sums begin at 0.
-fn work_pairs(t: &[u8], slots: [[u16; 16]; 64], asked: [[u8; 16]; 64], all: u32, heard: &mut [u8], schedule: &[u8], sums: &mut [i32]) -> RunAnswer
+fn work_pairs(
+    t: &[u8],
+    slots: [[u16; 16]; 64],
+    asked: [[u8; 16]; 64],
+    all: u32,
+    heard: &mut [u8],
+    schedule: &[u8],
+    sums: &mut [i32],
+) -> RunAnswer
     requires { ⌜ Ready (now t) (now heard) (now schedule) (now sums) × Found (now t) slots asked all × (now sums ≡ tabulate (λ v. pos 0) 64) ⌝ }
     ensures answer { λ r. ⌜ r ≡ accepted (run (pathsOf (now (t .entry))) (now (heard .entry)) (pairsIn (now (schedule .entry)))) ⌝ }
     ensures heard { λ r. ⌜ now (heard .exit) ≡ run (pathsOf (now (t .entry))) (now (heard .entry)) (pairsIn (now (schedule .entry))) .heard ⌝ }
@@ -71,7 +79,13 @@ fn work_pairs(t: &[u8], slots: [[u16; 16]; 64], asked: [[u8; 16]; 64], all: u32,
 }
 
 // Works a schedule that listens throughout, and answers what it counted.
-pub(crate) fn work(t: &[u8], listening: &[bool], heard: &mut [u8], schedule: &[u8], sums: &mut [i32]) -> RunAnswer
+pub(crate) fn work(
+    t: &[u8],
+    listening: &[bool],
+    heard: &mut [u8],
+    schedule: &[u8],
+    sums: &mut [i32],
+) -> RunAnswer
     requires { ⌜ Ready (now t) (now heard) (now schedule) (now sums) × (now listening ≡ tabulate (listensAt (pathsOf (now t))) 4096) ⌝ }
     ensures answer { λ r. ⌜ r ≡ accepted (run (pathsOf (now (t .entry))) (now (heard .entry)) (pairsIn (now (schedule .entry)))) ⌝ }
     ensures heard { λ r. ⌜ now (heard .exit) ≡ run (pathsOf (now (t .entry))) (now (heard .entry)) (pairsIn (now (schedule .entry))) .heard ⌝ }

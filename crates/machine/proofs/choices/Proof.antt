@@ -26,9 +26,9 @@ asked-in-requires c κs = all-slots _ _ (reading-accepted _ (sym (c .before .enu
 
 choice-bytes-requires : tie.Need-choice-bytes-requires
 choice-bytes-requires c κs = (
-      all-slots _ _ (reading-accepted _ (sym (c .before .before .enum-told2 .given .1) ∙ c .before .before .before .before .read .ensures)) (c .before .slots-of .ensures),
-      c .asked-in .ensures,
-    )
+  all-slots _ _ (reading-accepted _ (sym (c .before .before .enum-told2 .given .1) ∙ c .before .before .before .before .read .ensures)) (c .before .slots-of .ensures),
+  c .asked-in .ensures,
+)
 
 returns : tie.Need-returns
 returns c = choices-accepted _ _ _ (reading-accepted _ (sym (c .before .before .before .enum-told2 .given .1) ∙ c .before .before .before .before .before .read .ensures)) (c .choice-bytes .ensures)

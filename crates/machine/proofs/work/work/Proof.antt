@@ -1,0 +1,54 @@
+-- `machine::work::work` meets its contract: what serves every step is found, and the sums begin at 0.
+-- Assumes nothing.
+use mathlib.Core.Path.{sym, ap, _∙_}
+use native.Mathlib.Omega.{arith}
+use borrow.Author.Needs.{needs}
+use lib.ListN.{length}
+use Rattle.lists.specs.FillLaws.{tabulate-length}
+use Rattle.machine.specs.AskedLaws.{all-slots}
+use Rattle.machine.specs.RanLaws.{all-found, marks-long, ready-cleared}
+use Rattle.machine.proofs.work.work.Statement.{statement}
+use Rattle.machine.proofs.work.work.Tie as tie
+
+slots-of-requires : tie.Need-slots-of-requires
+slots-of-requires c κs = search needs
+
+asked-in-requires : tie.Need-asked-in-requires
+asked-in-requires c κs = all-slots _ _ (c .before .before .before .before .before .pre .0 .accepted) (c .slots-of .ensures)
+
+count-pairs-requires : tie.Need-count-pairs-requires
+count-pairs-requires c κs = marks-long _ _ (c .before .before .before .before .before .before .pre .1)
+
+clear-requires : tie.Need-clear-requires
+clear-requires c κs = c .before .before .before .before .before .before .before .before .pre .0 .longSums
+
+work-pairs-requires : tie.Need-work-pairs-requires
+work-pairs-requires c κs =
+    let p = c .before .before .before .before .before .before .before .before .before .before .before .before .pre in
+    let z = c .before .before .before .clear .ensures in (
+      ready-cleared _ _ _ _ _ (p .0) (ap length z ∙ tabulate-length _ 64),
+      all-found _ _ _ _ _ (all-slots _ _ (p .0 .accepted) (c .before .before .before .before .before .before .before .slots-of .ensures)) (c .before .before .before .before .before .before .asked-in .ensures) (p .1) (c .before .before .before .before .before .count-pairs .ensures),
+      z,
+    )
+
+same-length : tie.Need-same-length
+same-length c = search needs
+
+same-length-2 : tie.Need-same-length-2
+same-length-2 c = search needs
+
+returns : tie.Need-returns
+returns c = c .before .before .before .work-pairs .ensures
+
+pub work-spec : {M : Type 1} → statement M
+work-spec =
+    tie.close
+    (tie.spec
+    slots-of-requires
+    asked-in-requires
+    count-pairs-requires
+    clear-requires
+    work-pairs-requires
+    same-length
+    same-length-2
+    returns)
