@@ -3,8 +3,8 @@ use Prim.Native.Nat.{ℕ, min}
 use mathlib.Core.List.{List, [], _∷_}
 use lib.ListN.{getD}
 use lib.IntN.{ℤ, pos}
-use Rattle.rules.specs.Table.{pathAt, records, slotsOf}
-use Rattle.rules.specs.RunText.{vertexLine}
+use Rattle.rules.specs.Table.{pathAt, records, slotsOf, present}
+use Rattle.rules.specs.RunText.{vertexLine, vertexLines}
 
 -- the record of a rank among a vertex's best-first slots; 65,535, an empty slot, for rank 0 and for ranks that have no slot
 unfoldable pub rankedRecord : List ℕ → ℕ → ℕ
@@ -16,3 +16,7 @@ shownLine t choices sums v =
     let rank = getD choices v 0 in
     let slots = getD (slotsOf t (min (records t) 1008)) v [] in
     vertexLine v (getD sums v (pos 0)) rank (pathAt t (rankedRecord slots rank))
+
+-- the lines of the present vertices from 1 to n
+abbrev pub shownLines : List ℕ → List ℕ → List ℤ → ℕ → List ℕ
+shownLines t choices sums n = vertexLines (present t) (shownLine t choices sums) n

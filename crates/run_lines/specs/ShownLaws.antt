@@ -11,9 +11,9 @@ use Rattle.lists.specs.Fill.{tabulate}
 use Rattle.lists.specs.FillLaws.{tabulate-at}
 use Rattle.lists.specs.ListLaws.{getD-within}
 use Rattle.rules.specs.Table.{Path, pathAt, records, slotsOf, present}
-use Rattle.rules.specs.RunText.{vertexLine, vertexLines}
+use Rattle.rules.specs.RunText.{vertexLine}
 use Rattle.rules.specs.RunTextLaws.{vertices-present, vertices-absent}
-use Rattle.run_lines.specs.Shown.{rankedRecord, shownLine}
+use Rattle.run_lines.specs.Shown.{rankedRecord, shownLine, shownLines}
 
 -- the record of a rank
 
@@ -39,7 +39,7 @@ module _ (t choices : List ℕ) (sums : List ℤ) (named : List Bool) (v : ℕ) 
 
   pub shown-absent : (d : Bool)
       → getD named (v + 1) d ≡ false
-      → vertexLines (present t) (shownLine t choices sums) v ≡ vertexLines (present t) (shownLine t choices sums) (v + 1)
+      → shownLines t choices sums v ≡ shownLines t choices sums (v + 1)
   shown-absent d e = vertices-absent (present t) (shownLine t choices sums) v (sym (named-at d) ∙ e)
 
   pub shown-present : (d : Bool) (slots : List (List ℕ)) (row : List ℕ) (rank i : ℕ) (sum : ℤ) (path : Path)
@@ -50,8 +50,8 @@ module _ (t choices : List ℕ) (sums : List ℤ) (named : List Bool) (v : ℕ) 
       → i ≡ rankedRecord row rank
       → sum ≡ getD sums (v + 1) (pos 0)
       → path ≡ pathAt t i
-      → vertexLines (present t) (shownLine t choices sums) v ++ vertexLine (v + 1) sum rank path
-      ≡ vertexLines (present t) (shownLine t choices sums) (v + 1)
+      → shownLines t choices sums v ++ vertexLine (v + 1) sum rank path
+      ≡ shownLines t choices sums (v + 1)
   unfolding shownLine
   shown-present d slots row rank i sum path e s r b q m p =
       vertices-present (present t) (shownLine t choices sums) v (vertexLine (v + 1) sum rank path) (sym (named-at d) ∙ e)

@@ -2,11 +2,10 @@
 ghost use mathlib.Core.Path.{_≡_};
 ghost use lib.ListN.{getD};
 ghost use lib.IntN.{pos};
-ghost use Rattle.rules.specs.Table.{present};
-ghost use Rattle.rules.specs.RunText.{runLine, vertexLine, vertexLines, runTextOf};
+ghost use Rattle.rules.specs.RunText.{runLine, vertexLine, runTextOf};
 ghost use Rattle.answer.specs.Moves.{runRefusalIn, runNumbersIn};
 ghost use Rattle.letters.specs.Lay.{Laid};
-ghost use Rattle.run_lines.specs.Shown.{rankedRecord, shownLine};
+ghost use Rattle.run_lines.specs.Shown.{rankedRecord, shownLines};
 use answer::RunAnswer;
 use answer::RunVerdict;
 use facts::present_in;
@@ -68,7 +67,7 @@ fn put_vertex(text: &mut [u8], at: usize, v: usize, sum: i32, rank: u8, path: &[
 
 // The lines of the vertices 1 to 63 that are present.
 fn put_vertices(text: &mut [u8], at: usize, table: &[u8], choices: &[u8], sums: &[i32]) -> usize
-    ensures { λ r. ⌜ Laid at (vertexLines (present (now (table .entry))) (shownLine (now (table .entry)) (now (choices .entry)) (now (sums .entry))) 63) (now (text .entry)) (now (text .exit)) r ⌝ }
+    ensures { λ r. ⌜ Laid at (shownLines (now (table .entry)) (now (choices .entry)) (now (sums .entry)) 63) (now (text .entry)) (now (text .exit)) r ⌝ }
 {
     let named = present_in(table);
     let slots = slots_of(table);
@@ -101,7 +100,7 @@ pub fn print_run(
     sums: &[i32],
     text: &mut [u8],
 ) -> usize
-    ensures { λ r. ⌜ Laid 0 (runTextOf (runRefusalIn (answer .verdict)) (runNumbersIn answer) (vertexLines (present (now (table .entry))) (shownLine (now (table .entry)) (now (choices .entry)) (now (sums .entry))) 63)) (now (text .entry)) (now (text .exit)) r ⌝ }
+    ensures { λ r. ⌜ Laid 0 (runTextOf (runRefusalIn (answer .verdict)) (runNumbersIn answer) (shownLines (now (table .entry)) (now (choices .entry)) (now (sums .entry)) 63)) (now (text .entry)) (now (text .exit)) r ⌝ }
 {
     let verdict = answer.verdict;
     let RunVerdict::Refused(number, place) = verdict else {

@@ -27,7 +27,7 @@ use Rattle.answer.specs.declared.RunAnswer.{RunAnswer}
 use Rattle.answer.specs.Moves.{runRefusalIn, runNumbersIn}
 use Rattle.letters.specs.Lay.{Laid, overlaid}
 use Rattle.letters.specs.LayLaws.{laid-as, laid-fits}
-use Rattle.run_lines.specs.Shown.{rankedRecord, shownLine}
+use Rattle.run_lines.specs.Shown.{rankedRecord, shownLine, shownLines}
 
 -- an accepted table
 
@@ -64,7 +64,7 @@ module _ (t : List ℕ) (e : refusal t ≡ none) (v : ℕ) (h : v < 64) where
 lines-ran : (t : List ℕ)
     → refusal t ≡ none
     → (y : Tally)
-    → vertexLines (present t) (shownLine t (choiceBytes (pathsOf t) (y .heard)) (y .sums)) 63 ≡ vertexLines (present t) (ranLine t y) 63
+    → shownLines t (choiceBytes (pathsOf t) (y .heard)) (y .sums) 63 ≡ vertexLines (present t) (ranLine t y) 63
 lines-ran t e y = vertices-ext (present t) _ _ 63 (λ k h. shown-ran t e (k + 1) (omega arith) y (λ z. omega arith))
 
 -- what the contracts of the run and of the choices say, where the choices are those of the state that the run leaves
@@ -92,7 +92,7 @@ module _ (t heard s : List ℕ) (sums : List ℤ) (long : length heard ≡ 4096)
   -- what the answer prints is the text of the run
   text-is : (a : RunAnswer) (heardAfter : List ℕ) (sumsAfter : List ℤ) (chosen : List ℕ)
       → Ran t heard s sums a heardAfter sumsAfter chosen
-      → runTextOf (runRefusalIn (a .verdict)) (runNumbersIn a) (vertexLines (present t) (shownLine t chosen sumsAfter) 63)
+      → runTextOf (runRefusalIn (a .verdict)) (runNumbersIn a) (shownLines t chosen sumsAfter 63)
       ≡ runText t heard s sums
   unfolding runText runNumbers heardAfterRun sumsAfterRun choicesIn
   text-is a heardAfter sumsAfter chosen ran =
@@ -110,7 +110,7 @@ Printed t s before after n = (after ≡ overlaid (ranText t s) before) × (n ≡
 -- what the answer of a run from zeros prints is the text
 pub printed-run : (t s before after : List ℕ) (n : ℕ) (a : RunAnswer) (heardAfter : List ℕ) (sumsAfter : List ℤ) (chosen : List ℕ)
     → Ran t (replicate 4096 0) s (replicate 64 (pos 0)) a heardAfter sumsAfter chosen
-    → Laid 0 (runTextOf (runRefusalIn (a .verdict)) (runNumbersIn a) (vertexLines (present t) (shownLine t chosen sumsAfter) 63)) before after n
+    → Laid 0 (runTextOf (runRefusalIn (a .verdict)) (runNumbersIn a) (shownLines t chosen sumsAfter 63)) before after n
     → Printed t s before after n
 unfolding ranText
 printed-run t s before after n a heardAfter sumsAfter chosen ran l =

@@ -6,19 +6,17 @@ use native.Mathlib.Omega.{arith}
 use borrow.Author.Tests.{not-true, not-false}
 use mir.Syntax.{w32}
 use mir.Facts.{toZ-ofZ}
-use Rattle.rules.specs.Table.{present}
-use Rattle.rules.specs.RunText.{vertexLines}
 use Rattle.rules.specs.RunTextLaws.{vertices-none}
 use Rattle.letters.specs.Lay.{Laid}
 use Rattle.letters.specs.LayLaws.{laid-then, laid-nothing, laid-as, laid-length}
-use Rattle.run_lines.specs.Shown.{shownLine}
+use Rattle.run_lines.specs.Shown.{shownLines}
 use Rattle.run_lines.specs.ShownLaws.{shown-absent, shown-present}
 use Rattle.run_lines.proofs.put_vertices.Statement.{statement}
 use Rattle.run_lines.proofs.put_vertices.Tie as tie
 
 abbrev Inv-loop : tie.InvT-loop
 Inv-loop text₀ at table choices sums named slots next₀ v₀ text next v =
-    (v ≤ 63) × Laid at (vertexLines (present table) (shownLine table choices sums) v) text₀ text next
+    (v ≤ 63) × Laid at (shownLines table choices sums v) text₀ text next
 
 abbrev μ-loop : tie.MeasureT-loop
 μ-loop text₀ at table choices sums named slots next₀ v₀ text next v = 63 - v
@@ -95,7 +93,7 @@ same-length c = laid-length (c .before .loop .inv .1)
 returns : tie.Need-returns Inv-loop μ-loop
 returns c =
     let e : c .before .loop .v ≡ 63 = omega arith in
-    laid-as (c .before .loop .inv .1) (ap (vertexLines _ _) e)
+    laid-as (c .before .loop .inv .1) (ap (shownLines _ _ _) e)
 
 pub put-vertices-spec : {M : Type 1} → statement M
 put-vertices-spec =
