@@ -6,6 +6,7 @@ ghost use lib.ListN.{length, set};
 ghost use Rattle.rules.specs.Refusals.{refusal};
 ghost use Rattle.rules.specs.Answers.{unless, checkRefusal, rowsAfter, ringAfter, stepRefusal, stepMovement, heardAfterStep, runRefusal, runNumbers, heardAfterRun, sumsAfterRun};
 ghost use Rattle.rules.specs.Text.{checkText};
+ghost use Rattle.rules.specs.RunText.{ranText};
 ghost use Rattle.answer.specs.Moves.{runNumbersIn};
 ghost use Rattle.letters.specs.Lay.{overlaid};
 ghost use Rattle.probe.specs.Numbers.{codeOf, markOf, slotAt, stored};
@@ -23,6 +24,7 @@ use machine::step;
 use printed::check_text;
 use reader::Reading;
 use reader::read;
+use run_text::run_text;
 
 // 0 where the table is accepted, otherwise the refusal's number plus 256 times its place.
 #[no_mangle]
@@ -191,4 +193,13 @@ pub extern "C" fn probe_run(table: &[u8], heard: &mut [u8], schedule: &[u8], sum
             return number as u64 + 256 * (at as u64);
         }
     }
+}
+
+// The run program's text, laid over the front of the lent text as far as it fits, and how many bytes that is.
+#[no_mangle]
+pub extern "C" fn probe_run_text(table: &[u8], schedule: &[u8], text: &mut [u8]) -> u64
+    ensures text { λ r. ⌜ now (text .exit) ≡ overlaid (ranText (now (table .entry)) (now (schedule .entry))) (now (text .entry)) ⌝ }
+    ensures count { λ r. ⌜ r ≡ min (length (ranText (now (table .entry)) (now (schedule .entry)))) (length (now (text .entry))) ⌝ }
+{
+    run_text(table, schedule, text) as u64
 }

@@ -9,6 +9,7 @@ pub mod Rounds
 pub mod Refusals
 pub mod Answers
 pub mod Text
+pub mod RunText
 -- The worked examples.
 pub mod Examples
 pub mod TextExamples
@@ -32,3 +33,4 @@ pub mod ScheduleLaws
 pub mod AnswerLaws
 pub mod PlaceLaws
 pub mod TextLaws
+pub mod RunTextLaws

@@ -1,4 +1,5 @@
--- The rules page, "Tables tried by hand": the text that the check program prints, letter by letter, for all inputs.
+-- The rules page, "Tables tried by hand": the text that the check program prints, letter by letter, for all inputs. What every printed
+-- text shares comes first: numbers, words, a route and a refusal.
 use Prim.Native.Nat.{ℕ, zero, suc, _+_, _*_, _/_, _%_}
 use Prim.Native.Char.{code}
 use Prim.Native.String.{String}
@@ -6,7 +7,8 @@ use Prim.Native.String as string
 use mathlib.Core.Bool.{true, false}
 use mathlib.Core.List.{List, [], _∷_, _++_}
 use lib.ListN.{getD, take, drop}
-use lib.Dec.{ltb, eqb}
+use lib.Dec.{eqb}
+use Rattle.lists.specs.Search.{outside}
 use Rattle.lists.specs.Fill.{blocks}
 use Rattle.rules.specs.Refusals.{refusal}
 use Rattle.rules.specs.Report.{report}
@@ -35,12 +37,29 @@ unfoldable pub spaced : List ℕ → List ℕ
 spaced [] = []
 spaced (n ∷ ns) = labelled " " n ++ spaced ns
 
--- "A refusal prints `refused 9 record 2`, or `refused 3` for 1 to 3."
-unfoldable pub recordWords : ℕ → ℕ → List ℕ
-recordWords n k = elim (ltb n 4) [ true ↦ [] | false ↦ labelled " record " k ]
+-- "rank 1 path 1 0"; "A settled vertex without a path prints as `1 stage 2 none`": its rank is 0
+unfoldable pub routeWords : ℕ → List ℕ → List ℕ
+routeWords rank path =
+    elim (eqb rank 0) [
+      | true ↦ codes " none"
+      | false ↦ labelled " rank " rank ++ codes " path" ++ spaced path
+    ]
 
+-- the place of a refusal, under its name in the page's table: "record" for 4 to 11, "lowest bad offset" for 12, "pair number" for
+-- 14; the others have the place 0, which is not printed
+unfoldable pub placeWords : ℕ → ℕ → List ℕ
+placeWords n k =
+    elim (outside 4 11 n) [
+      | false ↦ labelled " record " k
+      | true ↦ elim (eqb n 12) [
+        | true ↦ labelled " offset " k
+        | false ↦ elim (eqb n 14) [ true ↦ labelled " pair " k | false ↦ [] ]
+      ]
+    ]
+
+-- "A refusal prints `refused 9 record 2`, or `refused 3` for 1 to 3."
 unfoldable pub refusedLine : ℕ → ℕ → List ℕ
-refusedLine n k = labelled "refused " n ++ recordWords n k ++ codes "\n"
+refusedLine n k = labelled "refused " n ++ placeWords n k ++ codes "\n"
 
 -- "verdict stuck settled 1 stuck 2 stages 1 longest 2"; "A complete table's first line says `complete` in place of `stuck`
 -- after `verdict`, keeps the four counts". The numbers are the check's: ring length, settled, stuck, s and L.
@@ -62,17 +81,13 @@ stageWords row = elim (eqb (getD row 0 0) 255) [ true ↦ codes " stuck" | false
 unfoldable pub rowPath : List ℕ → List ℕ
 rowPath row = take (getD row 2 0 + 1) (drop 3 row)
 
--- "rank 1 path 1 0"; "A settled vertex without a path prints as `1 stage 2 none`": its rank is 0
-unfoldable pub pathWords : List ℕ → List ℕ
-pathWords row =
-    elim (eqb (getD row 1 0) 0) [
-      | true ↦ codes " none"
-      | false ↦ labelled " rank " (getD row 1 0) ++ codes " path" ++ spaced (rowPath row)
-    ]
-
 -- "One line per present vertex but 0, rising: number, stage or stuck, rank, path." Byte 0 is 254 for an absent vertex.
 unfoldable pub rowLine : ℕ → List ℕ → List ℕ
-rowLine v row = elim (eqb (getD row 0 0) 254) [ true ↦ [] | false ↦ decimal v ++ stageWords row ++ pathWords row ++ codes "\n" ]
+rowLine v row =
+    elim (eqb (getD row 0 0) 254) [
+      | true ↦ []
+      | false ↦ decimal v ++ stageWords row ++ routeWords (getD row 1 0) (rowPath row) ++ codes "\n"
+    ]
 
 -- "its own 16-byte part of the rows, starting at 16 times its number"
 unfoldable pub rowAt : List ℕ → ℕ → List ℕ

@@ -2,6 +2,7 @@
 -- table's text.
 use mathlib.Core.Path.{_≡_, refl, sym, ap, _∙_}
 use mathlib.Core.Logic.{_≢_}
+use mathlib.Core.Bool.{true, false}
 use mathlib.Core.List.{List, [], _∷_, _++_, append-assoc, append-nil}
 use mathlib.Core.Option.{Option, none, some}
 use Prim.Native.Nat.{ℕ, zero, suc, _+_, _-_, _*_, _/_, _%_, _^_, _<_, _≤_, min}
@@ -10,14 +11,15 @@ use native.Mathlib.Nat.{pow-succ'}
 use native.Mathlib.Numerals.{add-one}
 use lib.ListN.{length, getD, take, drop, length-append, length-take, length-drop, drop-of-length-le}
 use lib.Seq.{take-suc, take-nil}
-use lib.Dec.{ltb, eqb}
-use borrow.Author.Tests.{eq-eqb, ne-eqb, lt-ltb, le-ltb}
+use lib.Dec.{eqb}
+use borrow.Author.Tests.{eq-eqb, ne-eqb}
+use Rattle.lists.specs.Search.{outside}
 use Rattle.lists.specs.Fold.{foldLeft}
 use Rattle.lists.specs.FoldLaws.{fold-append}
 use Rattle.lists.specs.Fill.{blocks}
 use Rattle.lists.specs.FillLaws.{blocks-most, blocks-none, blocks-suc}
 use Rattle.lists.specs.Parts.{part-clipped}
-use Rattle.lists.specs.Tests.{by-test, by-equal}
+use Rattle.lists.specs.Tests.{by-test, by-equal, above-out}
 use Rattle.lists.specs.NumberLaws.{by-number}
 use Rattle.rules.specs.Table.{recordAt}
 use Rattle.rules.specs.Refusals.{Refusal, refusal}
@@ -25,7 +27,7 @@ use Rattle.rules.specs.Report.{report}
 use Rattle.rules.specs.ReportLaws.{ring-length}
 use Rattle.rules.specs.Answers.{Verdict, complete, stuck, refused, verdict, unless, checkVerdict, checkNumbers, rowsAfter, ringAfter}
 use Rattle.rules.specs.AnswerLaws.{lent-right}
-use Rattle.rules.specs.Text.{codes, digitsIn, decimal, labelled, spaced, recordWords, refusedLine, verdictLine, stageWords, rowPath, pathWords, rowLine, rowAt, rowLines, ringLine, textOf, checkText}
+use Rattle.rules.specs.Text.{codes, digitsIn, decimal, labelled, spaced, routeWords, placeWords, refusedLine, verdictLine, stageWords, rowPath, rowLine, rowAt, rowLines, ringLine, textOf, checkText}
 
 -- the digits of a number: the last one, and those before it
 
@@ -91,12 +93,31 @@ pub decimal-most : (n : ℕ) → length (decimal n) ≤ 10
 unfolding decimal
 decimal-most n = digits-most 10 n
 
+-- a number has no more digits than it needs
+digits-few : (k j n : ℕ) → n < 10 ^ suc j → length (digitsIn k n) ≤ suc j
+digits-few zero j n h = omega (arith, ap length (digits-none n))
+digits-few (suc k) zero n h = let e : n / 10 ≡ 0 = omega (arith, pow-succ' 10 0) in omega (arith, ap length (digits-one k n e))
+digits-few (suc k) (suc j) n h =
+    by-equal (n / 10) 0
+    (λ e. omega (arith, ap length (digits-one k n e)))
+    (λ e. omega (arith, ap length (digits-more k n e), length-append (digitsIn k (n / 10)) ((48 + n % 10) ∷ []), digits-few k j (n / 10) (less-digits (suc j) n h)))
+
+pub decimal-few : (n : ℕ) → n < 100 → length (decimal n) ≤ 2
+unfolding decimal
+decimal-few n h = digits-few 10 1 n h
+
 -- numbers after spaces
 
 pub spaced-most : (ns : List ℕ) → length (spaced ns) ≤ 11 * length ns
 unfolding spaced labelled codes
 spaced-most [] = omega arith
 spaced-most (n ∷ ns) = omega (arith, length-append (decimal n) (spaced ns), decimal-most n, spaced-most ns)
+
+pub spaced-few : (ns : List ℕ) → ((k : ℕ) → k < length ns → getD ns k 0 < 100) → length (spaced ns) ≤ 3 * length ns
+unfolding spaced labelled codes
+spaced-few [] h = omega arith
+spaced-few (n ∷ ns) h =
+    omega (arith, length-append (decimal n) (spaced ns), decimal-few n (h 0 (omega arith)), spaced-few ns (λ k l. h (suc k) (omega arith)))
 
 spaced-append : (ns : List ℕ) (n : ℕ) → spaced (ns ++ n ∷ []) ≡ spaced ns ++ labelled " " n
 unfolding spaced
@@ -115,13 +136,30 @@ spaced-none = refl
 -- the words of a line, by cases
 
 module _ (n k : ℕ) where
-  pub record-none : n < 4 → [] ≡ recordWords n k
-  unfolding recordWords
-  record-none h = rw (lt-ltb n 4 h, recordWords)
+  pub place-record : outside 4 11 n ≡ false → labelled " record " k ≡ placeWords n k
+  unfolding placeWords
+  place-record h = rw (h, placeWords)
 
-  pub record-some : 4 ≤ n → labelled " record " k ≡ recordWords n k
-  unfolding recordWords
-  record-some h = rw (le-ltb n 4 h, recordWords)
+  pub place-offset : n ≡ 12 → labelled " offset " k ≡ placeWords n k
+  unfolding placeWords
+  place-offset e = rw (above-out 4 11 n (omega arith), eq-eqb n 12 e, placeWords)
+
+  pub place-pair : n ≡ 14 → labelled " pair " k ≡ placeWords n k
+  unfolding placeWords
+  place-pair e = rw (above-out 4 11 n (omega arith), ne-eqb n 12 (λ q. omega arith), eq-eqb n 14 e, placeWords)
+
+  pub place-none : outside 4 11 n ≡ true → n ≢ 12 → n ≢ 14 → [] ≡ placeWords n k
+  unfolding placeWords
+  place-none h f g = rw (h, ne-eqb n 12 f, ne-eqb n 14 g, placeWords)
+
+module _ (rank : ℕ) (path : List ℕ) where
+  pub route-none : rank ≡ 0 → codes " none" ≡ routeWords rank path
+  unfolding routeWords
+  route-none e = rw (eq-eqb rank 0 e, routeWords)
+
+  pub route-some : rank ≢ 0 → labelled " rank " rank ++ codes " path" ++ spaced path ≡ routeWords rank path
+  unfolding routeWords
+  route-some f = rw (ne-eqb rank 0 f, routeWords)
 
 module _ (row : List ℕ) (b : ℕ) where
   pub stage-stuck : b ≡ getD row 0 0 → b ≡ 255 → codes " stuck" ≡ stageWords row
@@ -132,25 +170,18 @@ module _ (row : List ℕ) (b : ℕ) where
   unfolding stageWords
   stage-some e h = rw (e, ne-eqb (getD row 0 0) 255 (λ q. h (e ∙ q)), stageWords)
 
-  pub path-none : b ≡ getD row 1 0 → b ≡ 0 → codes " none" ≡ pathWords row
-  unfolding pathWords
-  path-none e h = rw (eq-eqb (getD row 1 0) 0 (sym e ∙ h), pathWords)
-
-  pub path-some : (p : List ℕ)
-      → b ≡ getD row 1 0
-      → b ≢ 0
-      → p ≡ rowPath row
-      → labelled " rank " b ++ codes " path" ++ spaced p ≡ pathWords row
-  unfolding pathWords
-  path-some p e h q = rw (e, q, ne-eqb (getD row 1 0) 0 (λ q. h (e ∙ q)), pathWords)
-
   pub row-absent : (v : ℕ) → b ≡ getD row 0 0 → b ≡ 254 → [] ≡ rowLine v row
   unfolding rowLine
   row-absent v e h = rw (eq-eqb (getD row 0 0) 254 (sym e ∙ h), rowLine)
 
-  pub row-present : (v : ℕ) → b ≡ getD row 0 0 → b ≢ 254 → decimal v ++ stageWords row ++ pathWords row ++ codes "\n" ≡ rowLine v row
+  pub row-present : (v rank : ℕ) (path : List ℕ)
+      → b ≡ getD row 0 0
+      → b ≢ 254
+      → rank ≡ getD row 1 0
+      → path ≡ rowPath row
+      → decimal v ++ stageWords row ++ routeWords rank path ++ codes "\n" ≡ rowLine v row
   unfolding rowLine
-  row-present v e h = rw (ne-eqb (getD row 0 0) 254 (λ q. h (e ∙ q)), rowLine)
+  row-present v rank path e h q p = rw (q, p, ne-eqb (getD row 0 0) 254 (λ q. h (e ∙ q)), rowLine)
 
 -- a row's path, as a part of the row
 
@@ -185,14 +216,25 @@ rows-more rows row v e =
 
 -- how long each line is at most
 
-record-most : (n k : ℕ) → length (recordWords n k) ≤ 18
-unfolding recordWords labelled codes
-record-most n k =
-    by-test (ltb n 4) (λ q. rw (q, recordWords) (omega arith)) (λ q. rw (q, recordWords) (omega (arith, decimal-most k)))
+place-most : (n k : ℕ) → length (placeWords n k) ≤ 18
+unfolding labelled codes
+place-most n k =
+    by-test (outside 4 11 n)
+    (λ q. by-equal n 12 (λ e. rw (← (place-offset n k e)) (omega (arith, decimal-most k)))
+    (λ f. by-equal n 14 (λ e. rw (← (place-pair n k e)) (omega (arith, decimal-most k))) (λ g. rw (← (place-none n k q f g)) (omega arith))))
+    (λ q. rw (← (place-record n k q)) (omega (arith, decimal-most k)))
 
-refused-most : (n k : ℕ) → length (refusedLine n k) ≤ 37
+pub refused-most : (n k : ℕ) → length (refusedLine n k) ≤ 37
 unfolding refusedLine labelled codes
-refused-most n k = simp length-append (omega (arith, decimal-most n, record-most n k))
+refused-most n k = simp length-append (omega (arith, decimal-most n, place-most n k))
+
+-- a route whose path is laid in at most m bytes
+pub route-most : (rank m : ℕ) (path : List ℕ) → length (spaced path) ≤ m → length (routeWords rank path) ≤ 21 + m
+unfolding labelled codes
+route-most rank m path h =
+    by-equal rank 0
+    (λ e. rw (← (route-none rank path e)) (omega arith))
+    (λ f. rw (← (route-some rank path f)) (simp length-append (omega (arith, decimal-most rank))))
 
 verdict-most : (name numbers : List ℕ) → length name ≤ 8 → length (verdictLine name numbers) ≤ 90
 unfolding verdictLine labelled codes
@@ -204,11 +246,9 @@ unfolding stageWords labelled codes
 stage-most row =
     by-test (eqb (getD row 0 0) 255) (λ q. rw (q, stageWords) (omega arith)) (λ q. rw (q, stageWords) (omega (arith, decimal-most (getD row 0 0))))
 
-path-most : (row : List ℕ) → length row ≤ 16 → length (pathWords row) ≤ 164
-unfolding pathWords rowPath labelled codes
-path-most row h =
-    by-test (eqb (getD row 1 0) 0) (λ q. rw (q, pathWords) (omega arith))
-    (λ q. rw (q, pathWords) (simp length-append (omega (arith, decimal-most (getD row 1 0), spaced-most (rowPath row), length-take (getD row 2 0 + 1) (drop 3 row), length-drop 3 row))))
+path-most : (row : List ℕ) → length row ≤ 16 → length (spaced (rowPath row)) ≤ 143
+unfolding rowPath
+path-most row h = omega (arith, spaced-most (rowPath row), length-take (getD row 2 0 + 1) (drop 3 row), length-drop 3 row)
 
 row-short : (v : ℕ) (rows : List ℕ) → length (rowAt rows v) ≤ 16
 unfolding rowAt
@@ -219,7 +259,7 @@ unfolding rowLine codes
 row-most v rows =
     let r = rowAt rows v in
     by-test (eqb (getD r 0 0) 254) (λ q. rw (q, rowLine) (omega arith))
-    (λ q. rw (q, rowLine) (simp length-append (omega (arith, decimal-most v, stage-most r, path-most r (row-short v rows)))))
+    (λ q. rw (q, rowLine) (simp length-append (omega (arith, decimal-most v, stage-most r, route-most (getD r 1 0) 143 (rowPath r) (path-most r (row-short v rows))))))
 
 rows-most : (rows : List ℕ) → length (rowLines rows 63) ≤ 12096
 unfolding rowLines

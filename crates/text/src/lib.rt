@@ -1,56 +1,19 @@
 // The printed text of the check's answer, for any answer and any buffers: a small function for each kind of line.
 ghost use mathlib.Core.Path.{_≡_};
-ghost use mathlib.Core.List.{_++_};
-ghost use Rattle.rules.specs.Text.{decimal, spaced, recordWords, refusedLine, verdictLine, stageWords, rowPath, pathWords, rowLine, rowLines, ringLine, textOf};
+ghost use Rattle.rules.specs.Text.{verdictLine, stageWords, rowPath, rowLine, rowLines, ringLine, textOf};
 ghost use Rattle.answer.specs.Meaning.{meaning, numbers};
 ghost use Rattle.letters.specs.Lay.{Laid};
 use answer::Answer;
 use answer::Verdict;
 use letters::put;
+use letters::put_labelled;
 use letters::put_number;
+use letters::put_refused;
+use letters::put_route;
+use letters::put_spaced;
 use parts::at_most;
 use parts::byte_at;
 use record::record_at;
-
-// A word and its number.
-fn put_labelled(text: &mut [u8], at: usize, word: &[u8], n: usize) -> usize
-    ensures { λ r. ⌜ Laid at (now (word .entry) ++ decimal n) (now (text .entry)) (now (text .exit)) r ⌝ }
-{
-    let said = put(text, at, word);
-    put_number(text, said, n)
-}
-
-// Each vertex after a space.
-fn put_spaced(text: &mut [u8], at: usize, vertices: &[u8]) -> usize
-    ensures { λ r. ⌜ Laid at (spaced (now (vertices .entry))) (now (text .entry)) (now (text .exit)) r ⌝ }
-{
-    let mut next = at;
-    let mut k = 0;
-    while k < vertices.len() {
-        next = put_labelled(text, next, b" ", vertices[k] as usize);
-        k += 1;
-    }
-    next
-}
-
-// The record's number, for the refusals that concern one record.
-fn put_record(text: &mut [u8], at: usize, number: u8, place: usize) -> usize
-    ensures { λ r. ⌜ Laid at (recordWords number place) (now (text .entry)) (now (text .exit)) r ⌝ }
-{
-    if number < 4 {
-        return at;
-    }
-    put_labelled(text, at, b" record ", place)
-}
-
-// `refused 9 record 2`, or `refused 3`.
-fn put_refused(text: &mut [u8], number: u8, place: usize) -> usize
-    ensures { λ r. ⌜ Laid 0 (refusedLine number place) (now (text .entry)) (now (text .exit)) r ⌝ }
-{
-    let said = put_labelled(text, 0, b"refused ", number as usize);
-    let placed = put_record(text, said, number, place);
-    put(text, placed, b"\n")
-}
 
 // `verdict stuck settled 1 stuck 2 stages 1 longest 2`, with the verdict's name.
 fn put_verdict(text: &mut [u8], name: &[u8], answer: Answer) -> usize
@@ -88,19 +51,6 @@ fn path_in(row: &[u8]) -> &[u8]
     &row[3..end]
 }
 
-// `rank 1 path 1 0`, or `none`.
-fn put_path(text: &mut [u8], at: usize, row: &[u8]) -> usize
-    ensures { λ r. ⌜ Laid at (pathWords (now (row .entry))) (now (text .entry)) (now (text .exit)) r ⌝ }
-{
-    let rank = byte_at(row, 1);
-    if rank == 0 {
-        return put(text, at, b" none");
-    }
-    let said = put_labelled(text, at, b" rank ", rank as usize);
-    let next = put(text, said, b" path");
-    put_spaced(text, next, path_in(row))
-}
-
 // The line of vertex v, where it is present.
 fn put_row(text: &mut [u8], at: usize, v: usize, row: &[u8]) -> usize
     ensures { λ r. ⌜ Laid at (rowLine v (now (row .entry))) (now (text .entry)) (now (text .exit)) r ⌝ }
@@ -110,7 +60,7 @@ fn put_row(text: &mut [u8], at: usize, v: usize, row: &[u8]) -> usize
     }
     let named = put_number(text, at, v);
     let staged = put_stage(text, named, row);
-    let routed = put_path(text, staged, row);
+    let routed = put_route(text, staged, byte_at(row, 1), path_in(row));
     put(text, routed, b"\n")
 }
 

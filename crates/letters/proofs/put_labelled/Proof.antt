@@ -1,9 +1,9 @@
--- `text::put_labelled` meets its contract: the word, then the number behind it.
+-- `letters::put_labelled` meets its contract: the word, then the number behind it.
 -- Assumes nothing.
 use borrow.Author.Needs.{needs}
 use Rattle.letters.specs.LayLaws.{laid-then, laid-length}
-use Rattle.text.proofs.put_labelled.Statement.{statement}
-use Rattle.text.proofs.put_labelled.Tie as tie
+use Rattle.letters.proofs.put_labelled.Statement.{statement}
+use Rattle.letters.proofs.put_labelled.Tie as tie
 
 put-requires : tie.Need-put-requires
 put-requires c κs = search needs

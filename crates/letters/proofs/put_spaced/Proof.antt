@@ -1,4 +1,4 @@
--- `text::put_spaced` meets its contract: the vertices below k are laid.
+-- `letters::put_spaced` meets its contract: the vertices below k are laid.
 -- Assumes nothing.
 use mathlib.Core.Path.{ap}
 use Prim.Native.Nat.{_≤_, _-_}
@@ -8,10 +8,10 @@ use lib.ListN.{length, take}
 use lib.Seq.{take-all}
 use Rattle.rules.specs.Text.{codes, labelled, spaced}
 use Rattle.rules.specs.TextLaws.{spaced-more, spaced-none}
 use Rattle.letters.specs.Lay.{Laid}
 use Rattle.letters.specs.LayLaws.{laid-then, laid-nothing, laid-as, laid-length}
-use Rattle.text.proofs.put_spaced.Statement.{statement}
-use Rattle.text.proofs.put_spaced.Tie as tie
+use Rattle.letters.proofs.put_spaced.Statement.{statement}
+use Rattle.letters.proofs.put_spaced.Tie as tie
 
 abbrev Inv-loop : tie.InvT-loop
 Inv-loop text₀ at vertices next₀ k₀ t6 text next k = (k ≤ length vertices) × Laid at (spaced (take k vertices)) text₀ text next

@@ -1,10 +1,10 @@
--- `text::put_refused` meets its contract: three pieces behind each other.
+-- `letters::put_refused` meets its contract: three pieces behind each other.
 -- Assumes nothing.
 use borrow.Author.Needs.{needs}
 use Rattle.rules.specs.Text.{codes, labelled, refusedLine}
 use Rattle.letters.specs.LayLaws.{laid-then, laid-length}
-use Rattle.text.proofs.put_refused.Statement.{statement}
-use Rattle.text.proofs.put_refused.Tie as tie
+use Rattle.letters.proofs.put_refused.Statement.{statement}
+use Rattle.letters.proofs.put_refused.Tie as tie
 
 slice-aggregate-put-labelled : tie.Need-slice-aggregate-put-labelled
 slice-aggregate-put-labelled c = search needs
@@ -12,8 +12,8 @@ slice-aggregate-put-labelled c = search needs
 put-labelled-requires : tie.Need-put-labelled-requires
 put-labelled-requires c κs = search needs
 
-put-record-requires : tie.Need-put-record-requires
-put-record-requires c κs = search needs
+put-place-requires : tie.Need-put-place-requires
+put-place-requires c κs = search needs
 
 slice-aggregate-put : tie.Need-slice-aggregate-put
 slice-aggregate-put c = search needs
@@ -26,7 +26,7 @@ unfolding codes labelled refusedLine
 returns c =
     let placed = c .before .before .before .before .before .before .before in
     let said = placed .before .before .before .before in
-    laid-then (laid-then (said .put-labelled .ensures) (placed .put-record .ensures)) (c .before .before .put .ensures)
+    laid-then (laid-then (said .put-labelled .ensures) (placed .put-place .ensures)) (c .before .before .put .ensures)
 
 same-length : tie.Need-same-length
 same-length c = laid-length (returns c)
@@ -34,5 +34,5 @@ same-length c = laid-length (returns c)
 pub put-refused-spec : {M : Type 1} → statement M
 put-refused-spec =
     tie.close
-    (tie.spec slice-aggregate-put-labelled put-labelled-requires put-record-requires slice-aggregate-put
+    (tie.spec slice-aggregate-put-labelled put-labelled-requires put-place-requires slice-aggregate-put
     put-requires same-length returns)

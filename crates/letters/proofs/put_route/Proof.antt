@@ -1,15 +1,12 @@
--- `text::put_path` meets its contract: rank 0 is no path.
+-- `letters::put_route` meets its contract: rank 0 is no path.
 -- Assumes nothing.
 use native.Mathlib.Omega.{arith}
 use borrow.Author.Needs.{needs}
 use Rattle.rules.specs.Text.{codes, labelled}
-use Rattle.rules.specs.TextLaws.{path-none, path-some}
+use Rattle.rules.specs.TextLaws.{route-none, route-some}
 use Rattle.letters.specs.LayLaws.{laid-then, laid-as, laid-length}
-use Rattle.text.proofs.put_path.Statement.{statement}
-use Rattle.text.proofs.put_path.Tie as tie
-
-byte-at-requires : tie.Need-byte-at-requires
-byte-at-requires c κs = search needs
+use Rattle.letters.proofs.put_route.Statement.{statement}
+use Rattle.letters.proofs.put_route.Tie as tie
 
 slice-aggregate-put : tie.Need-slice-aggregate-put
 slice-aggregate-put c = search needs
@@ -19,16 +16,13 @@ put-requires c κs = search needs
 
 returns : tie.Need-returns
 unfolding codes
-returns c = laid-as (c .before .before .put .ensures) (path-none _ _ (c .before .before .before .before .before .before .byte-at .ensures) (omega arith))
+returns c = laid-as (c .before .before .put .ensures) (route-none _ _ (omega arith))
 
 same-length : tie.Need-same-length
 same-length c = laid-length (returns c)
 
 slice-aggregate-put-labelled : tie.Need-slice-aggregate-put-labelled
 slice-aggregate-put-labelled c = search needs
-
-cast-put-labelled : tie.Need-cast-put-labelled
-cast-put-labelled c = search needs
 
 put-labelled-requires : tie.Need-put-labelled-requires
 put-labelled-requires c κs = search needs
@@ -39,26 +33,22 @@ slice-aggregate-put-2 c = search needs
 put-requires-2 : tie.Need-put-requires-2
 put-requires-2 c κs = search needs
 
-path-in-requires : tie.Need-path-in-requires
-path-in-requires c κs = search needs
-
 put-spaced-requires : tie.Need-put-spaced-requires
 put-spaced-requires c κs = search needs
 
 returns-2 : tie.Need-returns-2
 unfolding codes labelled
 returns-2 c =
-    let routed = c .before .before .before .before .before .before .before in
+    let routed = c .before .before .before .before .before .before in
     let ranked = routed .before .before .before .before .before in
     laid-as (laid-then (laid-then (ranked .put-labelled .ensures) (routed .put2 .ensures)) (c .before .before .put-spaced .ensures))
-    (path-some _ _ _ (ranked .before .before .before .before .byte-at .ensures) (λ e. omega arith) (c .before .before .before .path-in .ensures))
+    (route-some _ _ (λ e. omega arith))
 
 same-length-2 : tie.Need-same-length-2
 same-length-2 c = laid-length (returns-2 c)
 
-pub put-path-spec : {M : Type 1} → statement M
-put-path-spec =
+pub put-route-spec : {M : Type 1} → statement M
+put-route-spec =
     tie.close
-    (tie.spec byte-at-requires slice-aggregate-put put-requires same-length returns slice-aggregate-put-labelled
-    cast-put-labelled put-labelled-requires slice-aggregate-put-2 put-requires-2 path-in-requires
-    put-spaced-requires same-length-2 returns-2)
+    (tie.spec slice-aggregate-put put-requires same-length returns slice-aggregate-put-labelled put-labelled-requires
+    slice-aggregate-put-2 put-requires-2 put-spaced-requires same-length-2 returns-2)

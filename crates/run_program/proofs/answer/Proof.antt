@@ -1,0 +1,34 @@
+-- `run_program::answer` meets its contract: the text's length is within its buffer.
+-- Assumes nothing.
+use mathlib.Core.Path.{sym}
+use native.Mathlib.Omega.{arith}
+use borrow.Author.Needs.{needs}
+use lib.Seq.{length-take-le}
+use Rattle.run_program.proofs.answer.Statement.{statement}
+use Rattle.run_program.proofs.answer.Tie as tie
+
+slice-aggregate-run-text : tie.Need-slice-aggregate-run-text
+slice-aggregate-run-text c = search needs
+
+run-text-requires : tie.Need-run-text-requires
+run-text-requires c κs = search needs
+
+array-share-prefix-text : tie.Need-array-share-prefix-text
+array-share-prefix-text c = search needs
+
+slice-aggregate-write-all : tie.Need-slice-aggregate-write-all
+slice-aggregate-write-all c =
+    let r = c .before .before .run-text in
+    sym (length-take-le (r .result) (r .last .1 .1 .0) (omega (arith, r .ensures .1, r .kept .1 .1 .0)))
+
+write-all-requires : tie.Need-write-all-requires
+write-all-requires c κs = search needs
+
+returns : tie.Need-returns
+returns c = search needs
+
+pub answer-spec : {M : Type 1} → statement M
+answer-spec =
+    tie.close
+    (tie.spec slice-aggregate-run-text run-text-requires array-share-prefix-text slice-aggregate-write-all write-all-requires
+    returns)

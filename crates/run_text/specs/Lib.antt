@@ -1,0 +1,2 @@
+-- The run as text.
+pub mod RanLaws

@@ -1,0 +1,134 @@
+-- Laws of the run as text: what is laid is the text of the run from zeros, one result, and 8,192 bytes hold it.
+use mathlib.Core.Path.{_≡_, sym, ap, _∙_}
+use mathlib.Core.Logic.{_≢_}
+use mathlib.Core.List.{List, [], _∷_}
+use mathlib.Core.Option.{Option, none, some}
+use Prim.Native.Nat.{ℕ, zero, suc, _+_, _<_, _≤_, min}
+use native.Mathlib.Omega.{arith}
+use lib.ListN.{length, getD, take, replicate, length-map, length-replicate}
+use lib.IntN.{ℤ, pos}
+use Rattle.lists.specs.FillLaws.{tabulate-at}
+use Rattle.lists.specs.RangeLaws.{map-at}
+use Rattle.lists.specs.Tests.{by-option}
+use Rattle.rules.specs.Table.{records, pathAt, owned, pathsBelow, pathsOf, slotsOf, present}
+use Rattle.rules.specs.Refusals.{Refusal, refusal}
+use Rattle.rules.specs.Report.{rankIn}
+use Rattle.rules.specs.Machine.{byteFor, choice, choiceBytes}
+use Rattle.rules.specs.Run.{Tally, pairsIn, run}
+use Rattle.rules.specs.Answers.{unless, runRefusal, runNumbers, heardAfterRun, sumsAfterRun, choicesIn}
+use Rattle.rules.specs.RunText.{vertexLine, vertexLines, runTextOf, ranLine, runText, ranText}
+use Rattle.rules.specs.PathLaws.{place-most}
+use Rattle.rules.specs.Blocks.{few-records, no-path}
+use Rattle.rules.specs.Sanity.{slot-holds}
+use Rattle.rules.specs.ShapeLaws.{shaped}
+use Rattle.rules.specs.MachineLaws.{speaks-other, rank-tells}
+use Rattle.rules.specs.RunTextLaws.{vertices-ext, accepted-table, ran-text-fits}
+use Rattle.answer.specs.declared.RunAnswer.{RunAnswer}
+use Rattle.answer.specs.Moves.{runRefusalIn, runNumbersIn}
+use Rattle.letters.specs.Lay.{Laid, overlaid}
+use Rattle.letters.specs.LayLaws.{laid-as, laid-fits}
+use Rattle.run_lines.specs.Shown.{rankedRecord, shownLine, shownLines}
+
+-- an accepted table
+
+module _ (t : List ℕ) (e : refusal t ≡ none) (v : ℕ) (h : v < 64) where
+  -- the slot of a rank holds the path of that rank
+  ranked-path : (r : ℕ)
+      → r ≤ length (pathsOf t v)
+      → pathAt t (rankedRecord (getD (slotsOf t (min (records t) 1008)) v []) r) ≡ getD ([] ∷ pathsOf t v) r []
+  unfolding rankedRecord pathsOf pathsBelow
+  ranked-path zero l = no-path t e
+  ranked-path (suc k) l =
+      let all : min (records t) 1008 ≡ records t = omega (arith, few-records t e) in
+      let m : k < length (owned t (records t) v) = omega (arith, length-map (owned t (records t) v) (pathAt t)) in
+      rw all
+      (ap (pathAt t) (slot-holds t (records t) v k h (omega (arith, shaped t e .few v)))
+      ∙ sym (map-at (pathAt t) (owned t (records t) v) k 65535 [] m))
+
+  -- the byte of a choice is its rank, but for the destination
+  choice-rank : (heard : List ℕ) → v ≢ 0 → getD (choiceBytes (pathsOf t) heard) v 0 ≡ rankIn (pathsOf t) v (choice (pathsOf t) heard v)
+  unfolding choiceBytes byteFor rankIn
+  choice-rank heard f =
+      tabulate-at (λ u. byteFor (pathsOf t) u (choice (pathsOf t) heard u)) 64 v 0 h ∙ rw (speaks-other (pathsOf t) v f)
+
+  -- the line that is shown is that of the run
+  shown-ran : (y : Tally) → v ≢ 0 → shownLine t (choiceBytes (pathsOf t) (y .heard)) (y .sums) v ≡ ranLine t y v
+  unfolding shownLine ranLine rankIn
+  shown-ran y f =
+      let c = choice (pathsOf t) (y .heard) v in
+      rw (choice-rank (y .heard) f)
+      (ap (vertexLine v (getD (y .sums) v (pos 0)) (rankIn (pathsOf t) v c))
+      (ranked-path (rankIn (pathsOf t) v c) (place-most c (pathsOf t v)) ∙ rank-tells (pathsOf t) (y .heard) v f))
+
+-- the lines that are shown are those of the run
+lines-ran : (t : List ℕ)
+    → refusal t ≡ none
+    → (y : Tally)
+    → shownLines t (choiceBytes (pathsOf t) (y .heard)) (y .sums) 63 ≡ vertexLines (present t) (ranLine t y) 63
+lines-ran t e y = vertices-ext (present t) _ _ 63 (λ k h. shown-ran t e (k + 1) (omega arith) y (λ z. omega arith))
+
+-- what the contracts of the run and of the choices say, where the choices are those of the state that the run leaves
+pub record Ran (t heard s : List ℕ) (sums : List ℤ) (a : RunAnswer) (heardAfter : List ℕ) (sumsAfter : List ℤ) (chosen : List ℕ) : Type 0 where
+  pub refused : runRefusalIn (a .verdict) ≡ runRefusal t heard s sums
+  pub numbers : runNumbersIn a ≡ runNumbers t heard s sums
+  pub state : heardAfter ≡ heardAfterRun t heard s sums
+  pub added : sumsAfter ≡ sumsAfterRun t heard s sums
+  pub choices : chosen ≡ choicesIn t heardAfter
+
+module _ (t heard s : List ℕ) (sums : List ℤ) (long : length heard ≡ 4096) (longSums : length sums ≡ 64) where
+  abbrev y : Tally
+  y = run (pathsOf t) heard (pairsIn s)
+
+  -- a refused run prints neither numbers nor lines
+  refused-alone : (o : Option Refusal) (r : Refusal) (ns ns′ lines lines′ : List ℕ) → o ≡ some r → runTextOf o ns lines ≡ runTextOf o ns′ lines′
+  unfolding runTextOf
+  refused-alone o r ns ns′ lines lines′ e = rw e
+
+  -- an accepted run leaves what it has come to
+  accepted-new : {A : Type 0} (o : Option Refusal) (new old : A) → o ≡ none → unless o new old ≡ new
+  unfolding unless
+  accepted-new o new old e = rw e
+
+  -- what the answer prints is the text of the run
+  text-is : (a : RunAnswer) (heardAfter : List ℕ) (sumsAfter : List ℤ) (chosen : List ℕ)
+      → Ran t heard s sums a heardAfter sumsAfter chosen
+      → runTextOf (runRefusalIn (a .verdict)) (runNumbersIn a) (shownLines t chosen sumsAfter 63)
+      ≡ runText t heard s sums
+  unfolding runText runNumbers heardAfterRun sumsAfterRun choicesIn
+  text-is a heardAfter sumsAfter chosen ran =
+      by-option (runRefusal t heard s sums)
+      (λ e. let ok = accepted-table t heard s sums long longSums e in
+      let chose = ran .choices ∙ accepted-new (refusal t) _ _ ok ∙ ap (choiceBytes (pathsOf t)) (ran .state ∙ accepted-new _ _ _ e) in
+      rw (ran .refused, ran .numbers ∙ accepted-new _ _ _ e, ran .added ∙ accepted-new _ _ _ e, chose)
+      (ap (runTextOf (runRefusal t heard s sums) _) (lines-ran t ok y)))
+      (λ r e. rw (ran .refused) (refused-alone _ r _ _ _ _ e))
+
+-- what the contract of `run_text` says
+abbrev pub Printed : List ℕ → List ℕ → List ℕ → List ℕ → ℕ → Type 0
+Printed t s before after n = (after ≡ overlaid (ranText t s) before) × (n ≡ min (length (ranText t s)) (length before))
+
+-- what the answer of a run from zeros prints is the text
+pub printed-run : (t s before after : List ℕ) (n : ℕ) (a : RunAnswer) (heardAfter : List ℕ) (sumsAfter : List ℤ) (chosen : List ℕ)
+    → Ran t (replicate 4096 0) s (replicate 64 (pos 0)) a heardAfter sumsAfter chosen
+    → Laid 0 (runTextOf (runRefusalIn (a .verdict)) (runNumbersIn a) (shownLines t chosen sumsAfter 63)) before after n
+    → Printed t s before after n
+unfolding ranText
+printed-run t s before after n a heardAfter sumsAfter chosen ran l =
+    let text = text-is t (replicate 4096 0) s (replicate 64 (pos 0)) (length-replicate {A = ℕ} 4096 0) (length-replicate {A = ℤ} 64 (pos 0)) in
+    let m = laid-as l (text a heardAfter sumsAfter chosen ran) in
+    (m .stands, omega (arith, m .reaches))
+
+-- any two results and texts that it allows are equal
+pub one-run-text : (t s before after after′ : List ℕ) (n m : ℕ)
+    → Printed t s before after n
+    → Printed t s before after′ m
+    → (after ≡ after′) × (n ≡ m)
+one-run-text t s before after after′ n m p q = (p .0 ∙ sym (q .0), p .1 ∙ sym (q .1))
+
+-- in 8,192 bytes the whole text stands in front
+pub whole-run-text : (t s before after : List ℕ) (n : ℕ)
+    → 8192 ≤ length before
+    → Printed t s before after n
+    → (n ≡ length (ranText t s)) × (take n after ≡ ranText t s)
+whole-run-text t s before after n h p =
+    laid-fits (record { stands = p .0; reaches = omega (arith, p .1) }) (omega (arith, ran-text-fits t s))
