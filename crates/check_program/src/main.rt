@@ -1,5 +1,4 @@
 // The check program: a table from standard input, its check to standard output.
-ghost use Prim.Native.Nat.{_≤_};
 use libc::STDERR_FILENO;
 use libc::STDIN_FILENO;
 use libc::STDOUT_FILENO;

@@ -1,27 +1,26 @@
 -- Laws of the paths that a row of slots holds, and of what has to be heard for each.
 use mathlib.Core.Path.{_≡_, refl, sym, ap, _∙_}
 use mathlib.Core.Logic.{_≢_}
-use mathlib.Core.Bool.{Bool, true, false, not, _&&_}
+use mathlib.Core.Bool.{Bool}
 use mathlib.Core.List.{List, [], _∷_, _++_, map, map-append}
 use mathlib.Core.Option.{none}
-use Prim.Native.Nat.{ℕ, zero, suc, _+_, _-_, _*_, _<_, _≤_, min}
+use Prim.Native.Nat.{ℕ, zero, suc, _+_, _-_, _<_, _≤_, min}
 use native.Mathlib.Omega.{arith}
 use native.Mathlib.Nat.{not-suc-le-zero}
 use native.Mathlib.Numerals.{add-one}
 use lib.ListN.{length, getD, set, take, replicate, length-map}
 use lib.Seq.{take-all, take-suc, length-take-le}
 use mir.Val.{boolByte}
-use lib.Dec.{eqb}
 use borrow.Author.Tests.{eq-eqb, ne-eqb}
 use Rattle.lists.specs.Tests.{by-test, by-equal}
 use Rattle.lists.specs.Search.{same}
 use Rattle.lists.specs.FillLaws.{tabulate-at, padded-length, padded-whole, padded-more}
 use Rattle.lists.specs.Fill.{padded, tabulate}
 use Rattle.lists.specs.RangeLaws.{map-at}
-use Rattle.rules.specs.Table.{Path, records, pathAt, owned, pathsOf, pathsBelow, slotsOf, present, nextHop, rest}
+use Rattle.rules.specs.Table.{Path, records, pathAt, owned, pathsOf, pathsBelow, slotsOf, nextHop, rest}
 use Rattle.rules.specs.Refusals.{refusal}
 use Rattle.rules.specs.Report.{placeIn}
-use Rattle.rules.specs.Machine.{speaks, byteFor}
+use Rattle.rules.specs.Machine.{byteFor}
 use Rattle.rules.specs.MachineLaws.{speaks-destination, speaks-other}
 use Rattle.rules.specs.ShapeLaws.{shaped}
 use Rattle.rules.specs.Blocks.{few-records, owned-few, owned-below}

@@ -4,7 +4,7 @@ use mathlib.Core.Logic.{_≢_}
 use mathlib.Core.Bool.{Bool, true, false}
 use mathlib.Core.List.{List, [], _∷_, map}
 use mathlib.Core.Option.{none}
-use Prim.Native.Nat.{ℕ, suc, _+_, _*_, _<_, _≤_}
+use Prim.Native.Nat.{ℕ, _+_, _*_, _<_, _≤_}
 use native.Mathlib.Omega.{arith}
 use lib.ListN.{length, getD}
 use Rattle.lists.specs.FillLaws.{padded-at}
@@ -13,7 +13,7 @@ use Rattle.rules.specs.Table.{Path, pathAt, pathsOf, present, nextHop, first}
 use Rattle.rules.specs.Refusals.{refusal}
 use Rattle.rules.specs.Stable.{extends, bestGiven}
 use Rattle.rules.specs.Report.{rankIn}
-use Rattle.rules.specs.Machine.{speaks, byteFor, lastHeard, choice}
+use Rattle.rules.specs.Machine.{byteFor, lastHeard, choice}
 use Rattle.rules.specs.MachineLaws.{speaks-destination, speaks-other, choice-destination, choice-other, rank-most, rank-none}
 use Rattle.rules.specs.PathLaws.{place-distinct, place-head}
 use Rattle.rules.specs.Shape.{Shaped}

@@ -1,11 +1,11 @@
 -- Laws of what one step counts: nothing where the rank stays, otherwise an up or a down, and the step's number.
-use mathlib.Core.Path.{_≡_, refl, sym, ap, _∙_}
+use mathlib.Core.Path.{_≡_, refl, ap}
 use mathlib.Core.Logic.{_≢_}
-use mathlib.Core.Bool.{Bool, true, false}
-use Prim.Native.Nat.{ℕ, zero, suc, _+_, _-_, _<_, _≤_}
+use mathlib.Core.Bool.{true, false}
+use Prim.Native.Nat.{ℕ, _+_, _-_, _<_, _≤_}
 use native.Mathlib.Omega.{arith}
 use native.Mathlib.Numerals.{add-one}
-use lib.IntN.{ℤ, pos, negsuc, _-ℤ_, +ℤ-invr}
+use lib.IntN.{pos, _-ℤ_, +ℤ-invr}
 use borrow.Author.Tests.{eq-eqb, ne-eqb}
 use Rattle.lists.specs.NumberLaws.{difference-above, difference-below}
 use Rattle.lists.specs.Tests.{by-less}

@@ -1,12 +1,9 @@
 -- Laws of a run on its way: the start, what each pair may rely on, one pair more, and the end.
 use mathlib.Core.Path.{_≡_, refl, sym, ap, _∙_}
-use mathlib.Core.Logic.{_≢_}
 use mathlib.Core.Bool.{Bool, true, false}
 use mathlib.Core.List.{List, [], _∷_}
-use mathlib.Core.Option.{none}
 use Prim.Native.Nat.{ℕ, suc, _+_, _-_, _*_, _/_, _<_, _≤_}
 use native.Mathlib.Omega.{arith}
-use native.Mathlib.Numerals.{add-one}
 use lib.ListN.{length, getD, set, take, replicate, length-set, length-replicate}
 use lib.Seq.{take-all, length-take-le, getD-set-same}
 use lib.IntN.{ℤ, pos, natAbs, _+ℤ_, _-ℤ_, +ℤ-idl}
@@ -19,15 +16,12 @@ use Rattle.lists.specs.FoldLaws.{fold-nil, fold-more}
 use Rattle.lists.specs.Tests.{by-equal}
 use Rattle.lists.specs.ListLaws.{same-refl, differ}
 use Rattle.lists.specs.NumberLaws.{difference-most}
-use Rattle.rules.specs.Table.{Path, pathsOf, present, listens, listensAt}
-use Rattle.rules.specs.Refusals.{refusal}
+use Rattle.rules.specs.Table.{Path, pathsOf, listens, listensAt}
 use Rattle.rules.specs.Machine.{Pair, offsetOf, byteFor, pathFor, choice, choiceBytes, step, standing, movement, standingOf}
 use Rattle.rules.specs.MachineLaws.{byte-tells, choice-spoken, choice-kept, step-length, standing-most, offset-listens}
 use Rattle.rules.specs.Run.{Tally, pairsIn, isUp, isDown, more, listeningOffsets, closes, begun, activated, run}
 use Rattle.rules.specs.RunLaws.{Telescoped, telescoped-none, telescoped-on, all-listen, run-steps, more-both}
 use Rattle.rules.specs.ScheduleLaws.{pairs-length, pairs-at}
-use Rattle.rules.specs.Answers.{firstBadPair}
-use Rattle.rules.specs.ShapeLaws.{shaped}
 use Rattle.answer.specs.declared.RunAnswer.{RunAnswer}
 use Rattle.answer.specs.declared.RunVerdict.the-variants.{Accepted}
 use Rattle.machine.specs.Moves.{Worked}
@@ -127,14 +121,15 @@ module _ (t start schedule : List ℕ) (sumsLent : List ℤ) (r : Ready t start 
     going-byte w l = ap (λ (c : List ℕ). getD c w 0) (g .chosen) ∙ tabulate-at (λ x. byteFor paths x (choice paths heard x)) 64 w 0 l
 
     -- its offset can be activated
-    heard-at : listensAt paths (v * 64 + u) ≡ true
-    unfolding offsetOf
-    heard-at =
-        let z : v * 64 + u ≡ 64 * v + u = omega arith in
-        rw z (offset-listens paths pair (going-worked .speaker) ∙ hears)
-
     at-small : v * 64 + u < 4096
     at-small = omega (arith, going-worked .listener, going-worked .speaker)
+
+    same-offset : v * 64 + u ≡ 64 * v + u
+    same-offset = omega arith
+
+    heard-at : listensAt paths (v * 64 + u) ≡ true
+    unfolding offsetOf
+    heard-at = rw same-offset (offset-listens paths pair (going-worked .speaker) ∙ hears)
 
     pub going-open : Open stamps (v * 64 + u) closed missing
     going-open =
@@ -224,9 +219,6 @@ module _ (t start schedule : List ℕ) (sumsLent : List ℤ) (r : Ready t start 
           (te : stampsNow ≡ set stamps (v * 64 + u) (closed + 1)) (ae : all ≡ countBelow (listensAt paths) 4096) where
         abbrev seen : ℕ → List ℕ
         seen k = k ∷ tallyAt t start schedule i .since
-
-        same-offset : v * 64 + u ≡ 64 * v + u
-        same-offset = omega arith
 
         rounds-next : closedNow ≡ tallyAt t start schedule (i + 1) .rounds
         unfolding activated leftAfter offsetOf

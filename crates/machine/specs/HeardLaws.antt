@@ -1,10 +1,9 @@
 -- Laws of what has to be heard: the byte asked for is there exactly where the rest of the path is what was last heard.
-use mathlib.Core.Path.{_≡_, refl, sym, ap, _∙_}
+use mathlib.Core.Path.{_≡_, sym, ap, _∙_}
 use mathlib.Core.Logic.{_≢_}
 use mathlib.Core.Bool.{Bool, true, false, not, _&&_}
-use mathlib.Core.List.{List, [], _∷_}
-use mathlib.Core.Option.{none}
-use Prim.Native.Nat.{ℕ, zero, suc, _+_, _*_, _<_, _≤_}
+use mathlib.Core.List.{List, []}
+use Prim.Native.Nat.{ℕ, zero, suc, _+_, _*_, _<_}
 use native.Mathlib.Omega.{arith}
 use lib.ListN.{length, getD, length-drop, List·getD-eq-default}
 use lib.Dec.{eqb}
@@ -18,7 +17,7 @@ use Rattle.rules.specs.Stable.{extends}
 use Rattle.rules.specs.Report.{placeIn}
 use Rattle.rules.specs.Machine.{speaks, byteFor, pathFor, lastHeard}
 use Rattle.rules.specs.MachineLaws.{speaks-destination, speaks-other, heard-in}
-use Rattle.rules.specs.PathLaws.{place-at, place-none, place-distinct}
+use Rattle.rules.specs.PathLaws.{place-at, place-distinct}
 use Rattle.rules.specs.Shape.{Shaped}
 use Rattle.machine.specs.Asked.{askedFor}
 

@@ -1,17 +1,17 @@
 -- Laws of a step's effect: signed numbers that fit, standings, and what a movement counts.
-use mathlib.Core.Path.{_≡_, refl, sym, ap, _∙_}
+use mathlib.Core.Path.{_≡_, refl, ap, _∙_}
 use mathlib.Core.Logic.{_≢_}
 use mathlib.Core.List.{List}
-use Prim.Native.Nat.{ℕ, zero, suc, _+_, _*_, _-_, _<_, _≤_}
+use Prim.Native.Nat.{ℕ, zero, suc, _+_, _*_, _-_, _≤_}
 use native.Mathlib.Omega.{arith}
-use lib.ListN.{length, set}
+use lib.ListN.{set}
 use lib.IntN.{ℤ, pos, negsuc, natAbs, _-ℤ_}
 use mir.Val.{SFits, toZ, ofZ}
 use mir.Facts.{toZ-ofZ}
 use mir.Syntax.{w32}
 use Rattle.lists.specs.NumberLaws.{difference-most}
 use Rattle.rules.specs.Table.{Path}
-use Rattle.rules.specs.Machine.{Pair, offsetOf, byteFor, choice, step, standingOf}
+use Rattle.rules.specs.Machine.{offsetOf, step, standingOf}
 use Rattle.rules.specs.MachineLaws.{standing-of-most}
 use Rattle.machine.specs.Moves.{Says}
 

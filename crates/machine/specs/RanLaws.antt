@@ -1,7 +1,7 @@
 -- Each way through the run.
 use mathlib.Core.Path.{_≡_, sym, ap, _∙_}
 use mathlib.Core.Logic.{_≢_}
-use mathlib.Core.Bool.{Bool, true, false, _||_}
+use mathlib.Core.Bool.{Bool, true, false}
 use mathlib.Core.List.{List}
 use mathlib.Core.Option.{none, some}
 use Prim.Native.Nat.{ℕ, _/_, _%_, _<_, _≤_}
@@ -10,14 +10,14 @@ use lib.ListN.{length}
 use lib.IntN.{ℤ}
 use lib.Dec.{ltb}
 use borrow.Author.Tests.{lt-ltb, le-ltb}
-use Rattle.lists.specs.Search.{outside, countBelow}
+use Rattle.lists.specs.Search.{outside}
 use Rattle.lists.specs.Fill.{tabulate}
 use Rattle.lists.specs.FillLaws.{tabulate-length}
 use Rattle.lists.specs.Tests.{or-left, or-right, neither, is-inside, above-out}
 use Rattle.rules.specs.Table.{pathsOf, present, listensAt}
 use Rattle.rules.specs.Refusals.{refusal}
 use Rattle.rules.specs.Machine.{speaks, heardFault}
-use Rattle.rules.specs.Run.{Tally, pairsIn, run}
+use Rattle.rules.specs.Run.{pairsIn, run}
 use Rattle.rules.specs.Answers.{scheduleBad, firstBadPair, unless, runRefusal, runNumbers, heardAfterRun, sumsAfterRun}
 use Rattle.rules.specs.AnswerLaws.{run-refused-heard, run-refused-schedule, run-refused-pair, run-accepted}
 use Rattle.rules.specs.ShapeLaws.{shaped}

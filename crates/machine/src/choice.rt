@@ -11,7 +11,6 @@ ghost use Rattle.rules.specs.Report.{rankIn};
 ghost use Rattle.rules.specs.Machine.{byteFor, lastHeard, choice, choiceBytes};
 ghost use Rattle.machine.specs.Asked.{Slots, SlotRow, askedRow};
 ghost use Rattle.machine.specs.Found.{foundByte};
-use crate::asked::asked_in;
 use crate::asked::wide;
 use parts::byte_at;
 use record::next_at;

@@ -1,5 +1,5 @@
 -- The answers of the step and the run as one number: what each case says of the refusal, and that the number fits.
-use mathlib.Core.Path.{_≡_, refl, sym, ap, _∙_}
+use mathlib.Core.Path.{_≡_, sym, ap, _∙_}
 use mathlib.Core.List.{List}
 use mathlib.Core.Option.{Option, none, some}
 use Prim.Native.Nat.{ℕ, _+_, _*_, _<_, _≤_}
@@ -12,7 +12,7 @@ use Rattle.lists.specs.Tests.{by-option}
 use Rattle.rules.specs.Table.{pathsOf}
 use Rattle.rules.specs.Refusals.{Refusal}
 use Rattle.rules.specs.Machine.{Pair}
-use Rattle.rules.specs.Answers.{unless, stepRefusal, stepMovement, heardAfterStep, runRefusal, runNumbers, heardAfterRun, sumsAfterRun}
+use Rattle.rules.specs.Answers.{unless, stepRefusal, stepMovement, runRefusal, runNumbers}
 use Rattle.rules.specs.MachineLaws.{movement-most}
 use Rattle.rules.specs.PlaceLaws.{step-place, run-place}
 use Rattle.answer.specs.declared.StepAnswer.{StepAnswer}

@@ -136,7 +136,13 @@ fn put_movement(movement: &mut [i32], moved: i32)
 
 // The step: 0, or the refusal's number plus 256 times its place; where accepted, the movement goes to the front of a lent buffer.
 #[no_mangle]
-pub extern "C" fn probe_step(table: &[u8], heard: &mut [u8], listener: u8, speaker: u8, movement: &mut [i32]) -> u64
+pub extern "C" fn probe_step(
+    table: &[u8],
+    heard: &mut [u8],
+    listener: u8,
+    speaker: u8,
+    movement: &mut [i32],
+) -> u64
     ensures code { λ r. ⌜ r ≡ codeOf (stepRefusal (now (table .entry)) (now (heard .entry)) (record { listener = listener; speaker = speaker })) ⌝ }
     ensures heard { λ r. ⌜ now (heard .exit) ≡ heardAfterStep (now (table .entry)) (now (heard .entry)) (record { listener = listener; speaker = speaker }) ⌝ }
     ensures movement { λ r. ⌜ now (movement .exit) ≡ unless (stepRefusal (now (table .entry)) (now (heard .entry)) (record { listener = listener; speaker = speaker })) (set (now (movement .entry)) 0 (stepMovement (now (table .entry)) (now (heard .entry)) (record { listener = listener; speaker = speaker }))) (now (movement .entry)) ⌝ }
@@ -176,7 +182,13 @@ fn put_numbers(numbers: &mut [u32], answer: RunAnswer)
 
 // The run: 0, or the refusal's number plus 256 times its place; where accepted, its numbers go to the front of a lent buffer.
 #[no_mangle]
-pub extern "C" fn probe_run(table: &[u8], heard: &mut [u8], schedule: &[u8], sums: &mut [i32], numbers: &mut [u32]) -> u64
+pub extern "C" fn probe_run(
+    table: &[u8],
+    heard: &mut [u8],
+    schedule: &[u8],
+    sums: &mut [i32],
+    numbers: &mut [u32],
+) -> u64
     ensures code { λ r. ⌜ r ≡ codeOf (runRefusal (now (table .entry)) (now (heard .entry)) (now (schedule .entry)) (now (sums .entry))) ⌝ }
     ensures heard { λ r. ⌜ now (heard .exit) ≡ heardAfterRun (now (table .entry)) (now (heard .entry)) (now (schedule .entry)) (now (sums .entry)) ⌝ }
     ensures sums { λ r. ⌜ now (sums .exit) ≡ sumsAfterRun (now (table .entry)) (now (heard .entry)) (now (schedule .entry)) (now (sums .entry)) ⌝ }

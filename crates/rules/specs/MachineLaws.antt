@@ -275,15 +275,6 @@ module _ (paths : ℕ → List Path) (present : ℕ → Bool) (shaped : Shaped p
             apart = λ z. twice-apart (getD (paths v) k []) (q .simple) 0 1 (omega arith) (q .long) (q .owner ∙ z ∙ sym n);
           }
 
-  -- a listening pair has its own offset in the state
-  pub offset-small : (p : Pair)
-      → listens paths (p .listener) (p .speaker) ≡ true
-      → (offsetOf p < 4096) × (listensAt paths (offsetOf p) ≡ true)
-  unfolding offsetOf
-  offset-small p e =
-      let r = listening (p .listener) (p .speaker) e in
-      (omega (arith, r .listenerSmall, r .speakerSmall), offset-listens paths p (r .speakerSmall) ∙ e)
-
   -- an accepted step keeps the state valid
   pub step-valid : (heard : List ℕ) (p : Pair)
       → heardFault paths heard ≡ none

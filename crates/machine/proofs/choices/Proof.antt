@@ -1,7 +1,6 @@
 -- `machine::choices` meets its contract: an accepted table has its choices, a refused one has none.
 -- Assumes nothing.
 use mathlib.Core.Path.{sym, _∙_}
-use native.Mathlib.Omega.{arith}
 use borrow.Author.Needs.{needs}
 use Rattle.reader.specs.ReadingLaws.{reading-accepted, reading-refused}
 use Rattle.machine.specs.AskedLaws.{all-slots}

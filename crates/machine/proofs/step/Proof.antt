@@ -1,7 +1,6 @@
 -- `machine::step` meets its contract: each way through it has its refusal, or the step.
 -- Assumes nothing.
 use mathlib.Core.Path.{sym, _∙_}
-use native.Mathlib.Omega.{arith}
 use borrow.Author.Needs.{needs}
 use Rattle.rules.specs.AnswerLaws.{step-refused-length, step-refused-table}
 use Rattle.reader.specs.ReadingLaws.{reading-accepted, reading-refused}

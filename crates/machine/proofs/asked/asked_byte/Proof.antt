@@ -1,6 +1,5 @@
 -- `machine::asked::asked_byte` meets its contract: the destination speaks of (0), every other vertex of its slots.
 -- Assumes nothing.
-use native.Mathlib.Omega.{arith}
 use borrow.Author.Needs.{needs}
 use Rattle.machine.specs.AskedLaws.{asked-destination, asked-other}
 use Rattle.machine.proofs.asked.asked_byte.Statement.{statement}

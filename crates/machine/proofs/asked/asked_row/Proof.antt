@@ -1,6 +1,6 @@
 -- `machine::asked::asked_row` meets its contract: the slots before k have their bytes.
 -- Assumes nothing.
-use mathlib.Core.Path.{_≡_, refl, sym, ap, _∙_}
+use mathlib.Core.Path.{refl, sym, ap, _∙_}
 use Prim.Native.Nat.{_≤_, _-_}
 use native.Mathlib.Omega.{arith}
 use Rattle.rules.specs.Table.{pathAt, nextHop}

@@ -1,9 +1,7 @@
 -- `machine::choice::byte_of` meets its contract, case by case.
 -- Assumes nothing.
-use mathlib.Core.Path.{sym, ap, _∙_}
 use native.Mathlib.Omega.{arith}
 use borrow.Author.Needs.{needs}
-use Rattle.machine.specs.Found.{foundByte}
 use Rattle.machine.specs.ChoiceLaws.{found-nothing, found-slot}
 use Rattle.machine.proofs.choice.byte_of.Statement.{statement}
 use Rattle.machine.proofs.choice.byte_of.Tie as tie

@@ -1,6 +1,5 @@
 -- `machine::choice::choice_byte` meets its contract: the destination chooses (0), every other vertex what is found.
 -- Assumes nothing.
-use native.Mathlib.Omega.{arith}
 use borrow.Author.Needs.{needs}
 use Rattle.machine.specs.ChoiceLaws.{byte-destination, byte-found, found-small}
 use Rattle.machine.proofs.choice.choice_byte.Statement.{statement}

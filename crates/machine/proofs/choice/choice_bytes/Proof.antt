@@ -1,11 +1,11 @@
 -- `machine::choice::choice_bytes` meets its contract: each vertex has its byte.
 -- Assumes nothing.
-use mathlib.Core.Path.{_≡_, refl, sym, ap, _∙_}
+use mathlib.Core.Path.{_≡_, refl, sym, _∙_}
 use Prim.Native.Nat.{ℕ, _≤_, _-_}
 use native.Mathlib.Omega.{arith}
 use lib.ListN.{length, take, length-set, length-replicate}
 use Rattle.lists.specs.Fill.{tabulate}
-use Rattle.lists.specs.FillLaws.{tabulate-none, tabulate-at, fill-more, fill-end}
+use Rattle.lists.specs.FillLaws.{tabulate-none, fill-more, fill-end}
 use Rattle.rules.specs.Table.{pathsOf}
 use Rattle.rules.specs.Machine.{byteFor, choice, choiceBytes}
 use Rattle.machine.specs.Asked.{Slots, askedRow}

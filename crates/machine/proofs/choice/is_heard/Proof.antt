@@ -1,7 +1,6 @@
 -- `machine::choice::is_heard` meets its contract.
 -- Assumes nothing.
-use mathlib.Core.Path.{sym, _∙_}
-use native.Mathlib.Omega.{arith}
+use mathlib.Core.Path.{sym}
 use borrow.Author.Needs.{needs}
 use Rattle.machine.specs.HeardLaws.{hears-none, hears-some}
 use Rattle.machine.proofs.choice.is_heard.Statement.{statement}

@@ -1,7 +1,5 @@
 -- `machine::judged::run_accepted` meets its contract: each way through it has its refusal, or the run.
 -- Assumes nothing.
-use mathlib.Core.Path.{sym, _∙_}
-use native.Mathlib.Omega.{arith}
 use borrow.Author.Needs.{needs}
 use Rattle.machine.specs.RanLaws.{run-heard-bad, odd-bad, long-bad, run-length-bad, run-pair-bad, run-ready, run-worked}
 use Rattle.machine.proofs.judged.run_accepted.Statement.{statement}

@@ -1,8 +1,6 @@
 -- `machine::moves::add` meets its contract: the sum fits, as its contract asks.
 -- Assumes nothing.
-use native.Mathlib.Omega.{arith}
 use borrow.Author.Needs.{needs}
-use mir.Facts.{toZ-ofZ}
 use Rattle.machine.specs.MoveLaws.{small-fits}
 use Rattle.machine.proofs.moves.add.Statement.{statement}
 use Rattle.machine.proofs.moves.add.Tie as tie

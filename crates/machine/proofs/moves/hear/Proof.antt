@@ -1,7 +1,5 @@
 -- `machine::moves::hear` meets its contract: the store is the step.
 -- Assumes nothing.
-use mathlib.Core.Path.{_∙_}
-use native.Mathlib.Omega.{arith}
 use borrow.Author.Needs.{needs}
 use Rattle.machine.specs.MoveLaws.{says-step}
 use Rattle.machine.proofs.moves.hear.Statement.{statement}

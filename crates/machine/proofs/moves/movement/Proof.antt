@@ -1,6 +1,5 @@
 -- `machine::moves::movement` meets its contract: standings are small, so their difference fits.
 -- Assumes nothing.
-use native.Mathlib.Omega.{arith}
 use borrow.Author.Needs.{needs}
 use Rattle.machine.specs.MoveLaws.{move-fits, move-told}
 use Rattle.machine.proofs.moves.movement.Statement.{statement}

@@ -1,6 +1,5 @@
 -- `machine::moves::standing_of` meets its contract.
 -- Assumes nothing.
-use native.Mathlib.Omega.{arith}
 use borrow.Author.Needs.{needs}
 use Rattle.machine.specs.MoveLaws.{standing-zero, standing-more}
 use Rattle.machine.proofs.moves.standing_of.Statement.{statement}

@@ -1,7 +1,5 @@
 -- `machine::pair::step_accepted` meets its contract: each way through it has its refusal, or the step.
 -- Assumes nothing.
-use mathlib.Core.Path.{sym, _∙_}
-use native.Mathlib.Omega.{arith}
 use borrow.Author.Needs.{needs}
 use borrow.Author.Tests.{not-true, not-false}
 use Rattle.machine.specs.StepLaws.{way-heard, way-pair, way-worked, way-moved}

@@ -1,6 +1,5 @@
 -- `machine::pair::work_pair` meets its contract: the ranks before and after give the movement.
 -- Assumes nothing.
-use mathlib.Core.Path.{sym, _∙_}
 use native.Mathlib.Omega.{arith}
 use Rattle.machine.specs.AskedLaws.{all-slots, slot-row}
 use Rattle.machine.specs.StepLaws.{worked-says, worked-small, worked-moved, moved-told}

@@ -1,7 +1,6 @@
 -- `machine::work::work` meets its contract: what serves every step is found, and the sums begin at 0.
 -- Assumes nothing.
-use mathlib.Core.Path.{sym, ap, _∙_}
-use native.Mathlib.Omega.{arith}
+use mathlib.Core.Path.{ap, _∙_}
 use borrow.Author.Needs.{needs}
 use lib.ListN.{length}
 use Rattle.lists.specs.FillLaws.{tabulate-length}
