@@ -27,7 +27,7 @@ leftAfter stamps at closed missing = missing - newlyAt stamps at (closed + 1)
 pub record Open (stamps : List ℕ) (at closed missing : ℕ) : Type 0 where
   pub room : at < length stamps
   pub most : newlyAt stamps at (closed + 1) ≤ missing
-  pub few : closed < 4294967295
+  pub few : closed < 65535
 
 -- how many of the listening offsets have not been activated since the last closing
 unfoldable pub missingFrom : (ℕ → Bool) → List ℕ → ℕ

@@ -8,12 +8,12 @@ ghost use Rattle.machine.specs.Rounds.{markCount, newlyAt, missingAfter,
 
 // The rounds closed, and how many listening pairs are missing in the open one.
 pub(crate) struct Rounds {
-    pub(crate) closed: u32,
-    pub(crate) missing: u32,
+    pub(crate) closed: u16,
+    pub(crate) missing: u16,
 }
 
 // How many pairs listen.
-pub(crate) fn count_pairs(listening: &[bool]) -> u32
+pub(crate) fn count_pairs(listening: &[bool]) -> u16
     requires { ⌜ length (now listening) ≡ 4096 ⌝ }
     ensures { λ r. ⌜ r ≡ markCount (now (listening .entry)) 4096 ⌝ }
 {
@@ -31,7 +31,7 @@ pub(crate) fn count_pairs(listening: &[bool]) -> u32
 }
 
 // Stamps an offset with the number of the open round; 1 where it did not bear that yet, otherwise 0.
-fn newly(stamps: &mut [u32], at: usize, number: u32) -> u32
+fn newly(stamps: &mut [u16], at: usize, number: u16) -> u16
     requires { ⌜ at < length (now stamps) ⌝ }
     ensures count { λ r. ⌜ r ≡ newlyAt (now (stamps .entry)) at number ⌝ }
     ensures stamps { λ r. ⌜ now (stamps .exit) ≡ set (now (stamps .entry)) at number ⌝ }
@@ -45,8 +45,8 @@ fn newly(stamps: &mut [u32], at: usize, number: u32) -> u32
 }
 
 // The rounds closed, with one more where no pair is left.
-fn closed_after(closed: u32, left: u32) -> u32
-    requires { ⌜ closed < 4294967295 ⌝ }
+fn closed_after(closed: u16, left: u16) -> u16
+    requires { ⌜ closed < 65535 ⌝ }
     ensures { λ r. ⌜ r ≡ more (eqb left 0) closed ⌝ }
 {
     if left == 0 {
@@ -56,7 +56,7 @@ fn closed_after(closed: u32, left: u32) -> u32
 }
 
 // The pairs missing in the open round: all of them where none was left.
-fn missing_after(left: u32, all: u32) -> u32
+fn missing_after(left: u16, all: u16) -> u16
     ensures { λ r. ⌜ r ≡ missingAfter left all ⌝ }
 {
     if left == 0 {
@@ -66,7 +66,7 @@ fn missing_after(left: u32, all: u32) -> u32
 }
 
 // Activates an offset: it is missing no longer, and a round closes where no pair is left.
-pub(crate) fn activate(stamps: &mut [u32], at: usize, rounds: Rounds, all: u32) -> Rounds
+pub(crate) fn activate(stamps: &mut [u16], at: usize, rounds: Rounds, all: u16) -> Rounds
     requires { ⌜ Open (now stamps) at (rounds .closed) (rounds .missing) ⌝ }
     ensures closed { λ r. ⌜ r .closed ≡ more (eqb (leftAfter (now (stamps .entry)) at (rounds .closed) (rounds .missing)) 0) (rounds .closed) ⌝ }
     ensures missing { λ r. ⌜ r .missing ≡ missingAfter (leftAfter (now (stamps .entry)) at (rounds .closed) (rounds .missing)) all ⌝ }

@@ -33,7 +33,7 @@ fn answer_of(steps: usize, counts: Counts, rounds: Rounds) -> RunAnswer
         ups: counts.ups,
         downs: counts.downs,
         last: counts.last,
-        rounds: rounds.closed,
+        rounds: rounds.closed as u32,
     }
 }
 
@@ -42,7 +42,7 @@ fn work_pairs(
     t: &[u8],
     slots: [[u16; 16]; 64],
     asked: [[u8; 16]; 64],
-    all: u32,
+    all: u16,
     heard: &mut [u8],
     schedule: &[u8],
     sums: &mut [i32],
@@ -53,7 +53,7 @@ fn work_pairs(
     ensures sums { λ r. ⌜ now (sums .exit) ≡ run (pathsOf (now (t .entry))) (now (heard .entry)) (pairsIn (now (schedule .entry))) .sums ⌝ }
 {
     let mut choices = choice_bytes(t, slots, asked, heard);
-    let mut stamps = [0u32; 4096];
+    let mut stamps = [0u16; 4096];
     let mut counts = Counts {
         ups: 0,
         downs: 0,
