@@ -1,11 +1,13 @@
--- Laws of a schedule: how many pairs it has, and which of its bytes each pair is.
-use mathlib.Core.Path.{_≡_, refl}
-use mathlib.Core.List.{List, [], _∷_}
-use Prim.Native.Nat.{ℕ, zero, suc, _+_, _*_, _/_, _<_}
+-- Laws of a schedule's bytes: how many pairs it has, which bytes each pair is, and two schedules end to end.
+use mathlib.Core.Path.{_≡_, refl, ap}
+use mathlib.Core.List.{List, [], _∷_, _++_}
+use Prim.Native.Nat.{ℕ, zero, suc, _+_, _*_, _/_, _%_, _<_}
 use native.Mathlib.Omega.{arith}
 use lib.ListN.{length, getD}
+use Rattle.rules.specs.Table.{Path}
 use Rattle.rules.specs.Machine.{Pair}
-use Rattle.rules.specs.Run.{pairsIn}
+use Rattle.rules.specs.Run.{pairsIn, run}
+use Rattle.rules.specs.RunLaws.{Joined, run-append}
 
 -- two bytes are one pair
 pub pairs-length : (s : List ℕ) → length (pairsIn s) ≡ length s / 2
@@ -26,3 +28,16 @@ pairs-at (v ∷ (u ∷ s)) (suc i) d h =
     let y : 2 * suc i ≡ suc (suc (2 * i)) = omega arith in
     let z : 2 * suc i + 1 ≡ suc (suc (2 * i + 1)) = omega arith in
     rw (z, y) (pairs-at s i d (omega arith))
+
+-- the pairs of a schedule of whole pairs and of another behind it
+pub pairs-append : (s u : List ℕ) → length s % 2 ≡ 0 → pairsIn (s ++ u) ≡ pairsIn s ++ pairsIn u
+unfolding pairsIn
+pairs-append [] u e = refl
+pairs-append (v ∷ []) u e = absurd (omega arith)
+pairs-append (v ∷ (w ∷ s)) u e = ap (λ (l : List Pair). record { listener = v; speaker = w } ∷ l) (pairs-append s u (omega arith))
+
+-- so a run over the bytes of two schedules is a run over the second after a run over the first
+pub run-bytes : (paths : ℕ → List Path) (heard s u : List ℕ)
+    → length s % 2 ≡ 0
+    → Joined (run paths heard (pairsIn s)) (run paths (run paths heard (pairsIn s) .heard) (pairsIn u)) (run paths heard (pairsIn (s ++ u)))
+run-bytes paths heard s u e = rw (pairs-append s u e) (run-append paths heard (pairsIn s) (pairsIn u))
