@@ -21,7 +21,7 @@ same-length : tie.Need-same-length
 same-length c = search needs
 
 returns : tie.Need-returns
-returns c = (says-step _ _ _ _ _ (c .before .before .before .before .pre .2), c .choice-byte .ensures)
+returns c = (says-step _ _ _ _ _ (search needs), c .choice-byte .ensures)
 
 pub hear-spec : {M : Type 1} → statement M
 hear-spec =
