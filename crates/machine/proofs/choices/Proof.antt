@@ -9,7 +9,7 @@ use Rattle.machine.proofs.choices.Statement.{statement}
 use Rattle.machine.proofs.choices.Tie as tie
 
 read-requires : tie.Need-read-requires
-read-requires c κs = search needs
+read-requires c κs = tt
 
 enum-told : tie.Need-enum-told
 enum-told c = search needs
@@ -18,7 +18,7 @@ enum-told-2 : tie.Need-enum-told-2
 enum-told-2 c = search needs
 
 slots-of-requires : tie.Need-slots-of-requires
-slots-of-requires c κs = search needs
+slots-of-requires c κs = tt
 
 asked-in-requires : tie.Need-asked-in-requires
 asked-in-requires c κs = all-slots _ _ (reading-accepted _ (sym (c .before .enum-told2 .given .1) ∙ c .before .before .before .read .ensures)) (c .slots-of .ensures)

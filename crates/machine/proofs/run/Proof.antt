@@ -9,19 +9,19 @@ use Rattle.machine.proofs.run.Statement.{statement}
 use Rattle.machine.proofs.run.Tie as tie
 
 refusal-of-requires : tie.Need-refusal-of-requires
-refusal-of-requires c κs = search needs
+refusal-of-requires c κs = tt
 
 returns : tie.Need-returns
 returns c = ran-refused _ _ _ _ 1 0 _ (run-refused-length _ (c .before .before .before .before .before .args .heard .now) _ _ (c .before .if1 .taken)) (c .refusal-of .ensures)
 
 refusal-of-requires-2 : tie.Need-refusal-of-requires-2
-refusal-of-requires-2 c κs = search needs
+refusal-of-requires-2 c κs = tt
 
 returns-2 : tie.Need-returns-2
 returns-2 c = ran-refused _ _ _ _ 1 0 _ (run-refused-sums _ _ _ (c .before .before .before .before .before .before .args .sums .now) (c .before .if2 .taken)) (c .refusal-of2 .ensures)
 
 read-requires : tie.Need-read-requires
-read-requires c κs = search needs
+read-requires c κs = tt
 
 enum-known-reading : tie.Need-enum-known-reading
 enum-known-reading c = search needs
@@ -42,7 +42,7 @@ returns-3 : tie.Need-returns-3
 returns-3 c = c .before .before .before .run-accepted .ensures
 
 refusal-of-requires-3 : tie.Need-refusal-of-requires-3
-refusal-of-requires-3 c κs = search needs
+refusal-of-requires-3 c κs = tt
 
 returns-4 : tie.Need-returns-4
 returns-4 c =

@@ -12,7 +12,7 @@ returns : tie.Need-returns
 returns c = stepped-refused _ _ _ 1 0 (step-refused-length _ (c .before .before .before .args .heard .now) _ (c .if1 .taken))
 
 read-requires : tie.Need-read-requires
-read-requires c κs = search needs
+read-requires c κs = tt
 
 enum-known-reading : tie.Need-enum-known-reading
 enum-known-reading c = search needs

@@ -6,13 +6,13 @@ use Rattle.machine.proofs.asked.asked_byte.Statement.{statement}
 use Rattle.machine.proofs.asked.asked_byte.Tie as tie
 
 rest-of-requires : tie.Need-rest-of-requires
-rest-of-requires c κs = search needs
+rest-of-requires c κs = tt
 
 slice-aggregate-same-parts : tie.Need-slice-aggregate-same-parts
 slice-aggregate-same-parts c = search needs
 
 same-parts-requires : tie.Need-same-parts-requires
-same-parts-requires c κs = search needs
+same-parts-requires c κs = tt
 
 cast-result : tie.Need-cast-result
 cast-result c = search needs
@@ -21,10 +21,10 @@ returns : tie.Need-returns
 returns c = asked-destination _ _ _ _ (c .before .before .rest-of .ensures) (c .before .before .before .if1 .taken) _ (c .same-parts .ensures)
 
 rest-of-requires-2 : tie.Need-rest-of-requires-2
-rest-of-requires-2 c κs = search needs
+rest-of-requires-2 c κs = tt
 
 place-of-requires : tie.Need-place-of-requires
-place-of-requires c κs = search needs
+place-of-requires c κs = tt
 
 returns-2 : tie.Need-returns-2
 returns-2 c = asked-other _ _ _ _ (c .before .rest-of2 .ensures) (c .before .before .if1 .left) _ (c .place-of .ensures)

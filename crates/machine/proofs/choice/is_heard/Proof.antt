@@ -1,7 +1,6 @@
 -- `machine::choice::is_heard` meets its contract.
 -- Assumes nothing.
 use mathlib.Core.Path.{sym}
-use borrow.Author.Needs.{needs}
 use Rattle.machine.specs.HeardLaws.{hears-none, hears-some}
 use Rattle.machine.proofs.choice.is_heard.Statement.{statement}
 use Rattle.machine.proofs.choice.is_heard.Tie as tie
@@ -10,7 +9,7 @@ returns : tie.Need-returns
 returns c = sym (hears-none _ _ (c .if1 .taken))
 
 byte-at-requires : tie.Need-byte-at-requires
-byte-at-requires c κs = search needs
+byte-at-requires c κs = tt
 
 returns-2 : tie.Need-returns-2
 returns-2 c = hears-some _ _ _ (c .before .if1 .left) (c .byte-at .ensures)

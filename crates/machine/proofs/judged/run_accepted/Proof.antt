@@ -6,10 +6,10 @@ use Rattle.machine.proofs.judged.run_accepted.Statement.{statement}
 use Rattle.machine.proofs.judged.run_accepted.Tie as tie
 
 listening-in-requires : tie.Need-listening-in-requires
-listening-in-requires c κs = search needs
+listening-in-requires c κs = tt
 
 spoken-in-requires : tie.Need-spoken-in-requires
-spoken-in-requires c κs = search needs
+spoken-in-requires c κs = tt
 
 slice-aggregate-bad-offset : tie.Need-slice-aggregate-bad-offset
 slice-aggregate-bad-offset c = search needs
@@ -18,10 +18,10 @@ slice-aggregate-bad-offset-2 : tie.Need-slice-aggregate-bad-offset-2
 slice-aggregate-bad-offset-2 c = search needs
 
 bad-offset-requires : tie.Need-bad-offset-requires
-bad-offset-requires c κs = search needs
+bad-offset-requires c κs = tt
 
 refusal-of-requires : tie.Need-refusal-of-requires
-refusal-of-requires c κs = search needs
+refusal-of-requires c κs = tt
 
 same-length : tie.Need-same-length
 same-length c = search needs
@@ -33,7 +33,7 @@ returns c =
     (c .before .if1 .taken) _ (c .refusal-of .ensures)
 
 refusal-of-requires-2 : tie.Need-refusal-of-requires-2
-refusal-of-requires-2 c κs = search needs
+refusal-of-requires-2 c κs = tt
 
 same-length-2 : tie.Need-same-length-2
 same-length-2 c = search needs
@@ -45,7 +45,7 @@ returns-2 c =
     (c .before .before .if1 .left) (odd-bad _ (c .before .if2 .taken)) _ (c .refusal-of2 .ensures)
 
 refusal-of-requires-3 : tie.Need-refusal-of-requires-3
-refusal-of-requires-3 c κs = search needs
+refusal-of-requires-3 c κs = tt
 
 same-length-3 : tie.Need-same-length-3
 same-length-3 c = search needs
@@ -60,10 +60,10 @@ slice-aggregate-bad-pair : tie.Need-slice-aggregate-bad-pair
 slice-aggregate-bad-pair c = search needs
 
 bad-pair-requires : tie.Need-bad-pair-requires
-bad-pair-requires c κs = search needs
+bad-pair-requires c κs = tt
 
 refusal-of-requires-4 : tie.Need-refusal-of-requires-4
-refusal-of-requires-4 c κs = search needs
+refusal-of-requires-4 c κs = tt
 
 same-length-4 : tie.Need-same-length-4
 same-length-4 c = search needs

@@ -7,10 +7,10 @@ use Rattle.machine.proofs.pair.step_accepted.Statement.{statement}
 use Rattle.machine.proofs.pair.step_accepted.Tie as tie
 
 listening-in-requires : tie.Need-listening-in-requires
-listening-in-requires c κs = search needs
+listening-in-requires c κs = tt
 
 spoken-in-requires : tie.Need-spoken-in-requires
-spoken-in-requires c κs = search needs
+spoken-in-requires c κs = tt
 
 slice-aggregate-bad-offset : tie.Need-slice-aggregate-bad-offset
 slice-aggregate-bad-offset c = search needs
@@ -19,7 +19,7 @@ slice-aggregate-bad-offset-2 : tie.Need-slice-aggregate-bad-offset-2
 slice-aggregate-bad-offset-2 c = search needs
 
 bad-offset-requires : tie.Need-bad-offset-requires
-bad-offset-requires c κs = search needs
+bad-offset-requires c κs = tt
 
 same-length : tie.Need-same-length
 same-length c = search needs
@@ -34,7 +34,7 @@ slice-aggregate-is-listening : tie.Need-slice-aggregate-is-listening
 slice-aggregate-is-listening c = search needs
 
 is-listening-requires : tie.Need-is-listening-requires
-is-listening-requires c κs = search needs
+is-listening-requires c κs = tt
 
 same-length-2 : tie.Need-same-length-2
 same-length-2 c = search needs

@@ -19,7 +19,7 @@ closed-after-requires : tie.Need-closed-after-requires
 closed-after-requires c κs = c .before .before .before .before .before .before .pre .few
 
 missing-after-requires : tie.Need-missing-after-requires
-missing-after-requires c κs = search needs
+missing-after-requires c κs = tt
 
 same-length : tie.Need-same-length
 same-length c = search needs

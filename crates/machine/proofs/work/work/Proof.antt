@@ -10,7 +10,7 @@ use Rattle.machine.proofs.work.work.Statement.{statement}
 use Rattle.machine.proofs.work.work.Tie as tie
 
 slots-of-requires : tie.Need-slots-of-requires
-slots-of-requires c κs = search needs
+slots-of-requires c κs = tt
 
 asked-in-requires : tie.Need-asked-in-requires
 asked-in-requires c κs = all-slots _ _ (c .before .before .before .before .before .pre .0 .accepted) (c .slots-of .ensures)
