@@ -1,7 +1,7 @@
 -- What the machine finds once for all steps: the paths that the slots hold, and what has to be heard for each.
 use Prim.Native.Nat.{ℕ, _<_, _≤_, min}
 use mathlib.Core.Path.{_≡_}
-use mathlib.Core.Bool.{true, false}
+use mathlib.Core.Bool.{Bool, true, false, not, _&&_}
 use mathlib.Core.List.{List, [], _∷_, map}
 use mathlib.Core.Option.{none}
 use lib.ListN.{length, take}
@@ -34,7 +34,11 @@ pub record SlotRow (t : List ℕ) (v : ℕ) (row : List ℕ) : Type 0 where
 unfoldable pub askedFor : (ℕ → List Path) → Path → ℕ
 askedFor paths p = byteFor paths (nextHop p) (rest p)
 
--- the same for each of v's paths, over its 16 slots
+-- whether the byte asked for is the one heard; 0 is never asked for
+abbrev pub hearsByte : ℕ → ℕ → Bool
+hearsByte asked b = not (eqb asked 0) && eqb b asked
+
+-- the byte asked for each of v's paths, over its 16 slots
 unfoldable pub askedRow : (ℕ → List Path) → ℕ → List ℕ
 askedRow paths v = padded 16 0 (map (askedFor paths) (paths v))
 

@@ -18,11 +18,11 @@ use Rattle.rules.specs.MachineLaws.{speaks-destination, speaks-other, choice-de
 use Rattle.rules.specs.PathLaws.{place-distinct, place-head}
 use Rattle.rules.specs.Shape.{Shaped}
 use Rattle.rules.specs.ShapeLaws.{shaped}
-use Rattle.machine.specs.Asked.{slotPaths, SlotRow, askedFor, askedRow}
+use Rattle.machine.specs.Asked.{slotPaths, SlotRow, askedFor, askedRow, hearsByte}
 use Rattle.machine.specs.Scan.{Scanned}
 use Rattle.machine.specs.ScanLaws.{scanned-empty, scanned-end, scanned-next, first-scanned, first-nowhere}
 use Rattle.machine.specs.AskedLaws.{paths-on}
-use Rattle.machine.specs.HeardLaws.{hearsByte, asked-heard}
+use Rattle.machine.specs.HeardLaws.{asked-heard}
 use Rattle.machine.specs.declared.choice.Found.{Found}
 use Rattle.machine.specs.declared.choice.Found.the-variants.{Slot, Nothing}
 use Rattle.machine.specs.Found.{foundByte}

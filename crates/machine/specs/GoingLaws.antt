@@ -294,3 +294,13 @@ module _ (t start schedule : List ℕ) (sumsLent : List ℤ) (r : Ready t start 
         let c : last ≡ y .lastChange = g .changed ∙ ap (λ (z : Tally). z .lastChange) tally-end in
         let o : closed ≡ y .rounds = g .rounds ∙ ap (λ (z : Tally). z .rounds) tally-end in
         e ∙ (λ j. record { verdict = Accepted; steps = n j; ups = p j; downs = d j; last = c j; rounds = o j })
+
+-- the pair i can be worked, as the code asks for it
+pub pair-worked : {t start schedule heard choices stamps : List ℕ} {sumsLent sums : List ℤ} {i ups downs last closed missing v u : ℕ}
+    → Ready t start schedule sumsLent
+    → Going t start schedule i heard choices sums ups downs last stamps closed missing
+    → i < length schedule / 2
+    → v ≡ getD schedule (2 * i) 0
+    → u ≡ getD schedule (2 * i + 1) 0
+    → Worked t heard v u
+pair-worked r g h first second = going-worked _ _ _ _ r _ _ _ _ _ _ _ _ _ _ g h _ _ first second

@@ -19,11 +19,7 @@ use Rattle.rules.specs.Machine.{speaks, byteFor, pathFor, lastHeard}
 use Rattle.rules.specs.MachineLaws.{speaks-destination, speaks-other, heard-in}
 use Rattle.rules.specs.PathLaws.{place-at, place-distinct}
 use Rattle.rules.specs.Shape.{Shaped}
-use Rattle.machine.specs.Asked.{askedFor}
-
--- whether the byte asked for is the one heard; 0 is never asked for
-abbrev pub hearsByte : ℕ → ℕ → Bool
-hearsByte asked b = not (eqb asked 0) && eqb b asked
+use Rattle.machine.specs.Asked.{askedFor, hearsByte}
 
 pub hears-none : (a b : ℕ) → a ≡ 0 → hearsByte a b ≡ false
 hears-none a b e = rw (eq-eqb a 0 e)

@@ -1,15 +1,13 @@
 // The choice of a vertex: the first of its slots whose rest is what it last heard from the next hop.
 ghost use mathlib.Core.Path.{_≡_};
-ghost use mathlib.Core.Bool.{_&&_, not};
 ghost use Prim.Native.Nat.{_<_, _≤_};
 ghost use lib.ListN.{getD};
-ghost use lib.Dec.{eqb};
 ghost use Rattle.lists.specs.Fill.{tabulate};
 ghost use Rattle.rules.specs.Table.{pathsOf};
 ghost use Rattle.rules.specs.Stable.{bestGiven};
 ghost use Rattle.rules.specs.Report.{rankIn};
 ghost use Rattle.rules.specs.Machine.{byteFor, lastHeard, choice, choiceBytes};
-ghost use Rattle.machine.specs.Asked.{Slots, SlotRow, askedRow};
+ghost use Rattle.machine.specs.Asked.{Slots, SlotRow, askedRow, hearsByte};
 ghost use Rattle.machine.specs.Found.{foundByte};
 use crate::asked::wide;
 use parts::byte_at;
@@ -23,7 +21,7 @@ pub(crate) enum Found {
 
 // Whether the byte at a place of the heard state is the one asked for; 0 is never asked for.
 fn is_heard(heard: &[u8], at: usize, asked: u8) -> bool
-    ensures { λ r. ⌜ r ≡ (not (eqb asked 0) && eqb (getD (now (heard .entry)) at 0) asked) ⌝ }
+    ensures { λ r. ⌜ r ≡ hearsByte asked (getD (now (heard .entry)) at 0) ⌝ }
 {
     if asked == 0 {
         return false;

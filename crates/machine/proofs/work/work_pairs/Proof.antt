@@ -8,7 +8,7 @@ use Rattle.machine.specs.AskedLaws.{slot-row, asked-at}
 use Rattle.machine.specs.MoveLaws.{small-told, moves-small}
 use Rattle.machine.specs.StepLaws.{worked-says}
 use Rattle.machine.specs.Going.{Ready, Found, Going}
-use Rattle.machine.specs.GoingLaws.{going-start, going-worked, going-byte, going-open, going-ranks, going-small, going-more, going-heard, going-sums, going-answer}
+use Rattle.machine.specs.GoingLaws.{going-start, pair-worked, going-byte, going-open, going-ranks, going-small, going-more, going-heard, going-sums, going-answer}
 use Rattle.machine.proofs.work.work_pairs.Statement.{statement}
 use Rattle.machine.proofs.work.work_pairs.Tie as tie
 
@@ -37,7 +37,7 @@ shared-slice-read-v : tie.Need-shared-slice-read-v Inv-loop μ-loop
 shared-slice-read-v c = omega arith
 
 cast-v : tie.Need-cast-v Inv-loop μ-loop
-cast-v c = omega (arith, going-worked _ _ _ _ (c .before .before .loop .inv .1) _ _ _ _ _ _ _ _ _ _ (c .before .before .loop .inv .3) (omega arith) _ _ refl refl .listener)
+cast-v c = omega (arith, pair-worked (c .before .before .loop .inv .1) (c .before .before .loop .inv .3) (omega arith) refl refl .listener)
 
 mul-u : tie.Need-mul-u Inv-loop μ-loop
 mul-u c = omega arith
@@ -49,32 +49,32 @@ shared-slice-read-u : tie.Need-shared-slice-read-u Inv-loop μ-loop
 shared-slice-read-u c = omega arith
 
 cast-u : tie.Need-cast-u Inv-loop μ-loop
-cast-u c = omega (arith, going-worked _ _ _ _ (c .before .before .before .loop .inv .1) _ _ _ _ _ _ _ _ _ _ (c .before .before .before .loop .inv .3) (omega arith) _ _ refl refl .speaker)
+cast-u c = omega (arith, pair-worked (c .before .before .before .loop .inv .1) (c .before .before .before .loop .inv .3) (omega arith) refl refl .speaker)
 
 add-i : tie.Need-add-i Inv-loop μ-loop
 add-i c = omega arith
 
 array-read-old : tie.Need-array-read-old Inv-loop μ-loop
-array-read-old c = going-worked _ _ _ _ (c .before .before .before .loop .inv .1) _ _ _ _ _ _ _ _ _ _ (c .before .before .before .loop .inv .3) (omega arith) _ _ refl refl .listener
+array-read-old c = pair-worked (c .before .before .before .loop .inv .1) (c .before .before .before .loop .inv .3) (omega arith) refl refl .listener
 
 mul-hear : tie.Need-mul-hear Inv-loop μ-loop
-mul-hear c = omega (arith, going-worked _ _ _ _ (c .before .before .before .loop .inv .1) _ _ _ _ _ _ _ _ _ _ (c .before .before .before .loop .inv .3) (omega arith) _ _ refl refl .listener)
+mul-hear c = omega (arith, pair-worked (c .before .before .before .loop .inv .1) (c .before .before .before .loop .inv .3) (omega arith) refl refl .listener)
 
 array-copy-out-hear : tie.Need-array-copy-out-hear Inv-loop μ-loop
-array-copy-out-hear c = going-worked _ _ _ _ (c .before .before .before .loop .inv .1) _ _ _ _ _ _ _ _ _ _ (c .before .before .before .loop .inv .3) (omega arith) _ _ refl refl .listener
+array-copy-out-hear c = pair-worked (c .before .before .before .loop .inv .1) (c .before .before .before .loop .inv .3) (omega arith) refl refl .listener
 
 mul-hear-2 : tie.Need-mul-hear-2 Inv-loop μ-loop
-mul-hear-2 c = omega (arith, going-worked _ _ _ _ (c .before .before .before .before .loop .inv .1) _ _ _ _ _ _ _ _ _ _ (c .before .before .before .before .loop .inv .3) (omega arith) _ _ refl refl .listener)
+mul-hear-2 c = omega (arith, pair-worked (c .before .before .before .before .loop .inv .1) (c .before .before .before .before .loop .inv .3) (omega arith) refl refl .listener)
 
 array-copy-out-hear-2 : tie.Need-array-copy-out-hear-2 Inv-loop μ-loop
-array-copy-out-hear-2 c = going-worked _ _ _ _ (c .before .before .before .before .loop .inv .1) _ _ _ _ _ _ _ _ _ _ (c .before .before .before .before .loop .inv .3) (omega arith) _ _ refl refl .listener
+array-copy-out-hear-2 c = pair-worked (c .before .before .before .before .loop .inv .1) (c .before .before .before .before .loop .inv .3) (omega arith) refl refl .listener
 
 array-read-hear : tie.Need-array-read-hear Inv-loop μ-loop
-array-read-hear c = going-worked _ _ _ _ (c .before .before .before .before .before .before .loop .inv .1) _ _ _ _ _ _ _ _ _ _ (c .before .before .before .before .before .before .loop .inv .3) (omega arith) _ _ refl refl .speaker
+array-read-hear c = pair-worked (c .before .before .before .before .before .before .loop .inv .1) (c .before .before .before .before .before .before .loop .inv .3) (omega arith) refl refl .speaker
 
 hear-requires : tie.Need-hear-requires Inv-loop μ-loop
 hear-requires c κs =
-    let w = going-worked _ _ _ _ (c .before .before .before .before .before .before .loop .inv .1) _ _ _ _ _ _ _ _ _ _ (c .before .before .before .before .before .before .loop .inv .3) (omega arith) _ _ refl refl in
+    let w = pair-worked (c .before .before .before .before .before .before .loop .inv .1) (c .before .before .before .before .before .before .loop .inv .3) (omega arith) refl refl in
     let f = c .before .before .before .before .before .before .loop .inv .2 in (
       slot-row _ _ _ (f .held) (w .listener),
       asked-at _ _ _ (f .bytes) (w .listener),
@@ -82,7 +82,7 @@ hear-requires c κs =
     )
 
 array-write-choices : tie.Need-array-write-choices Inv-loop μ-loop
-array-write-choices c = going-worked _ _ _ _ (c .before .before .before .before .before .before .before .before .before .loop .inv .1) _ _ _ _ _ _ _ _ _ _ (c .before .before .before .before .before .before .before .before .before .loop .inv .3) (omega arith) _ _ refl refl .listener
+array-write-choices c = pair-worked (c .before .before .before .before .before .before .before .before .before .loop .inv .1) (c .before .before .before .before .before .before .before .before .before .loop .inv .3) (omega arith) refl refl .listener
 
 movement-requires : tie.Need-movement-requires Inv-loop μ-loop
 movement-requires c κs =
@@ -93,7 +93,7 @@ movement-requires c κs =
 add-requires : tie.Need-add-requires Inv-loop μ-loop
 add-requires c κs =
     let h = c .before .before .before .before .hear .ensures in (
-      omega (arith, going-worked _ _ _ _ (c .before .before .before .before .before .before .before .before .before .before .before .loop .inv .1) _ _ _ _ _ _ _ _ _ _ (c .before .before .before .before .before .before .before .before .before .before .before .loop .inv .3) (omega arith) _ _ refl refl .listener, c .before .before .before .before .before .before .before .before .before .before .before .loop .inv .3 .longSums),
+      omega (arith, pair-worked (c .before .before .before .before .before .before .before .before .before .before .before .loop .inv .1) (c .before .before .before .before .before .before .before .before .before .before .before .loop .inv .3) (omega arith) refl refl .listener, c .before .before .before .before .before .before .before .before .before .before .before .loop .inv .3 .longSums),
       going-small _ _ _ _ (c .before .before .before .before .before .before .before .before .before .before .before .loop .inv .1) _ _ _ _ _ _ _ _ _ _ (c .before .before .before .before .before .before .before .before .before .before .before .loop .inv .3) (omega arith) _ _ refl refl
           _ _ _ _ (h .0) refl (h .1) (small-told _ _ (moves-small _ _) (c .movement .ensures)),
     )
@@ -112,10 +112,10 @@ slice-aggregate-activate : tie.Need-slice-aggregate-activate Inv-loop μ-loop
 slice-aggregate-activate c = omega (arith, c .before .before .before .before .before .before .before .before .before .before .before .before .before .before .before .loop .inv .3 .stamped .size)
 
 mul-activate : tie.Need-mul-activate Inv-loop μ-loop
-mul-activate c = omega (arith, going-worked _ _ _ _ (c .before .before .before .before .before .before .before .before .before .before .before .before .before .before .before .loop .inv .1) _ _ _ _ _ _ _ _ _ _ (c .before .before .before .before .before .before .before .before .before .before .before .before .before .before .before .loop .inv .3) (omega arith) _ _ refl refl .listener)
+mul-activate c = omega (arith, pair-worked (c .before .before .before .before .before .before .before .before .before .before .before .before .before .before .before .loop .inv .1) (c .before .before .before .before .before .before .before .before .before .before .before .before .before .before .before .loop .inv .3) (omega arith) refl refl .listener)
 
 add-activate : tie.Need-add-activate Inv-loop μ-loop
-add-activate c = omega (arith, going-worked _ _ _ _ (c .before .before .before .before .before .before .before .before .before .before .before .before .before .before .before .loop .inv .1) _ _ _ _ _ _ _ _ _ _ (c .before .before .before .before .before .before .before .before .before .before .before .before .before .before .before .loop .inv .3) (omega arith) _ _ refl refl .listener, going-worked _ _ _ _ (c .before .before .before .before .before .before .before .before .before .before .before .before .before .before .before .loop .inv .1) _ _ _ _ _ _ _ _ _ _ (c .before .before .before .before .before .before .before .before .before .before .before .before .before .before .before .loop .inv .3) (omega arith) _ _ refl refl .speaker)
+add-activate c = omega (arith, pair-worked (c .before .before .before .before .before .before .before .before .before .before .before .before .before .before .before .loop .inv .1) (c .before .before .before .before .before .before .before .before .before .before .before .before .before .before .before .loop .inv .3) (omega arith) refl refl .listener, pair-worked (c .before .before .before .before .before .before .before .before .before .before .before .before .before .before .before .loop .inv .1) (c .before .before .before .before .before .before .before .before .before .before .before .before .before .before .before .loop .inv .3) (omega arith) refl refl .speaker)
 
 activate-requires : tie.Need-activate-requires Inv-loop μ-loop
 activate-requires c κs = going-open _ _ _ _ (c .before .before .before .before .before .before .before .before .before .before .before .before .before .before .before .loop .inv .1) _ _ _ _ _ _ _ _ _ _ (c .before .before .before .before .before .before .before .before .before .before .before .before .before .before .before .loop .inv .3) (omega arith) _ _ refl refl
