@@ -115,6 +115,13 @@ slot-row t slots v s h =
           ∙ ap (map (pathAt t)) (filled-front o (16 - length o) (λ k l q. omega (arith, owned-below t e v k l, few-records t e)));
     }
 
+-- at a slot that is not empty, with no empty one before it, stands the vertex's next path
+pub slot-on : (t row : List ℕ) (v k : ℕ) → SlotRow t v row → length row ≡ 16 → k < 16 → k ≤ length (pathsOf t v) → getD row k 0 ≢ 65535
+    → (k < length (pathsOf t v)) × (getD (pathsOf t v) k [] ≡ pathAt t (getD row k 0))
+slot-on t row v k s n h l e =
+    let m : length (slotPaths t row) ≡ length (pathsOf t v) = ap length (s .held) in
+    rw (s .held) at (paths-on t row k (omega arith) (omega arith) e)
+
 -- it has 16 slots
 pub slot-size : (t : List ℕ) (slots : List (List ℕ)) (v : ℕ) → Slots t slots → v < 64 → length (getD slots v []) ≡ 16
 unfolding slotsOf
@@ -185,7 +192,7 @@ module _ (t : List ℕ) (slots : List (List ℕ)) (v : ℕ) (asked : List ℕ) (
 
   module _ (h : k < 16) (e : getD row k 0 ≢ 65535) (p : Path) (l : p ≡ pathAt t (getD row k 0)) where
     there : (k < length (paths v)) × (getD (paths v) k [] ≡ pathAt t (getD row k 0))
-    there = rw held at (paths-on t row k (omega (arith, sized)) (omega (arith, counted, a .under)) e)
+    there = slot-on t row v k (slot-row t slots v (a .all) (a .vertex)) sized h (a .under) e
 
     -- the next hop of a permitted path is a vertex
     pub next-small : (u : ℕ) → u ≡ nextHop p → u < 64

@@ -21,7 +21,7 @@ use Rattle.rules.specs.ShapeLaws.{shaped}
 use Rattle.machine.specs.Asked.{slotPaths, SlotRow, askedFor, askedRow, hearsByte}
 use Rattle.machine.specs.Scan.{Scanned}
 use Rattle.machine.specs.ScanLaws.{scanned-empty, scanned-end, scanned-next, first-scanned, first-nowhere}
-use Rattle.machine.specs.AskedLaws.{paths-on}
+use Rattle.machine.specs.AskedLaws.{slot-on}
 use Rattle.machine.specs.HeardLaws.{asked-heard}
 use Rattle.machine.specs.declared.choice.Found.{Found}
 use Rattle.machine.specs.declared.choice.Found.the-variants.{Slot, Nothing}
@@ -70,11 +70,8 @@ module _ (t row asked heard : List ℕ) (v : ℕ) (s : SlotRow t v row) (a : ask
     -- the byte asked for is heard at a slot where its path extends what was heard
     module _ (h : k < 16) (e : getD row k 0 ≢ 65535) (n at b : ℕ) (next : n ≡ nextHop (pathAt t (getD row k 0))) (place : at ≡ v * 64 + n)
         (asks : b ≡ getD asked k 0) (r : Bool) (told : r ≡ hearsByte b (getD heard at 0)) where
-      there : (k < length (slotPaths t row)) × (getD (slotPaths t row) k [] ≡ pathAt t (getD row k 0))
-      there = paths-on t row k (omega (arith, z .size)) (z .under) e
-
       slot-path : (k < length (paths v)) × (getD (paths v) k [] ≡ pathAt t (getD row k 0))
-      slot-path = rw (s .held) at there
+      slot-path = slot-on t row v k s (z .size) h (omega (arith, z .under, ap length (s .held))) e
 
       slot-asks : b ≡ askedFor paths (getD (paths v) k [])
       unfolding askedRow

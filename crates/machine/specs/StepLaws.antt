@@ -35,9 +35,6 @@ module _ (paths : ℕ → List Path) (present : ℕ → Bool) (shaped : Shaped p
   unfolding byteFor rankIn
   rank-byte heard = rw (speaks-other paths v other)
 
-  byte-small : (heard : List ℕ) (b : ℕ) → b ≡ byteFor paths v (choice paths heard v) → b ≤ 16
-  byte-small heard b e = omega (arith, rank-byte heard, rank-most paths present shaped v (choice paths heard v))
-
   byte-standing : (heard : List ℕ) (b : ℕ) → b ≡ byteFor paths v (choice paths heard v) → standingOf b ≡ standing paths heard v
   unfolding standing
   byte-standing heard b e = ap standingOf (e ∙ rank-byte heard)
@@ -55,7 +52,9 @@ module _ (t heard : List ℕ) (v u : ℕ) (w : Worked t heard v u) where
 
   -- the listener's byte is small, whatever was heard
   pub worked-small : (state : List ℕ) (b : ℕ) → b ≡ byteFor paths v (choice paths state v) → b ≤ 16
-  worked-small = byte-small paths (present t) (shaped t (w .accepted)) v (w .other)
+  worked-small state b e =
+      let c = choice paths state v in
+      omega (arith, rank-byte paths (present t) (shaped t (w .accepted)) v (w .other) state, rank-most paths (present t) (shaped t (w .accepted)) v c)
 
   -- the movement is that of the ranks before and after
   pub worked-moved : (after : List ℕ) (old new : ℕ) (m : ℤ)
