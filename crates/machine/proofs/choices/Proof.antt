@@ -21,16 +21,22 @@ slots-of-requires : tie.Need-slots-of-requires
 slots-of-requires c κs = tt
 
 asked-in-requires : tie.Need-asked-in-requires
-asked-in-requires c κs = all-slots _ _ (reading-accepted _ (sym (c .before .enum-told2 .given .1) ∙ c .before .before .before .read .ensures)) (c .slots-of .ensures)
+asked-in-requires c κs =
+    let b3 = c .before .before .before in
+    all-slots _ _ (reading-accepted _ (sym (c .before .enum-told2 .given .1) ∙ b3 .read .ensures)) (c .slots-of .ensures)
 
 choice-bytes-requires : tie.Need-choice-bytes-requires
-choice-bytes-requires c κs = (
-  all-slots _ _ (reading-accepted _ (sym (c .before .before .enum-told2 .given .1) ∙ c .before .before .before .before .read .ensures)) (c .before .slots-of .ensures),
-  c .asked-in .ensures,
-)
+choice-bytes-requires c κs =
+    let b4 = c .before .before .before .before in (
+      all-slots _ _ (reading-accepted _ (sym (c .before .before .enum-told2 .given .1) ∙ b4 .read .ensures)) (c .before .slots-of .ensures),
+      c .asked-in .ensures,
+    )
 
 returns : tie.Need-returns
-returns c = choices-accepted _ _ _ (reading-accepted _ (sym (c .before .before .before .enum-told2 .given .1) ∙ c .before .before .before .before .before .read .ensures)) (c .choice-bytes .ensures)
+returns c =
+    let b3 = c .before .before .before in
+    let b5 = b3 .before .before in
+    choices-accepted _ _ _ (reading-accepted _ (sym (b3 .enum-told2 .given .1) ∙ b5 .read .ensures)) (c .choice-bytes .ensures)
 
 returns-2 : tie.Need-returns-2
 returns-2 c = choices-refused _ _ _ (reading-refused _ _ _ (sym (c .enum-told .given .1) ∙ c .before .before .read .ensures))

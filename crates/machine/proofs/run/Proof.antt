@@ -12,13 +12,17 @@ refusal-of-requires : tie.Need-refusal-of-requires
 refusal-of-requires c κs = tt
 
 returns : tie.Need-returns
-returns c = ran-refused _ _ _ _ 1 0 _ (run-refused-length _ (c .before .before .before .before .before .args .heard .now) _ _ (c .before .if1 .taken)) (c .refusal-of .ensures)
+returns c =
+    let b5 = c .before .before .before .before .before in
+    ran-refused _ _ _ _ 1 0 _ (run-refused-length _ (b5 .args .heard .now) _ _ (c .before .if1 .taken)) (c .refusal-of .ensures)
 
 refusal-of-requires-2 : tie.Need-refusal-of-requires-2
 refusal-of-requires-2 c κs = tt
 
 returns-2 : tie.Need-returns-2
-returns-2 c = ran-refused _ _ _ _ 1 0 _ (run-refused-sums _ _ _ (c .before .before .before .before .before .before .args .sums .now) (c .before .if2 .taken)) (c .refusal-of2 .ensures)
+returns-2 c =
+    let b6 = c .before .before .before .before .before .before in
+    ran-refused _ _ _ _ 1 0 _ (run-refused-sums _ _ _ (b6 .args .sums .now) (c .before .if2 .taken)) (c .refusal-of2 .ensures)
 
 read-requires : tie.Need-read-requires
 read-requires c κs = tt
@@ -30,7 +34,11 @@ enum-told : tie.Need-enum-told
 enum-told c = search needs
 
 run-accepted-requires : tie.Need-run-accepted-requires
-run-accepted-requires c κs = (reading-accepted _ (sym (c .before .before .enum-told .given .1) ∙ c .before .before .before .before .read .ensures), c .before .before .before .before .before .before .if1 .left, c .before .before .before .before .before .if2 .left)
+run-accepted-requires c κs =
+    let b4 = c .before .before .before .before in
+    let b5 = b4 .before in
+    let b6 = b5 .before in
+    (reading-accepted _ (sym (c .before .before .enum-told .given .1) ∙ b4 .read .ensures), b6 .if1 .left, b5 .if2 .left)
 
 same-length : tie.Need-same-length
 same-length c = search needs

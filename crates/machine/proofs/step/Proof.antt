@@ -21,7 +21,10 @@ enum-told : tie.Need-enum-told
 enum-told c = search needs
 
 step-accepted-requires : tie.Need-step-accepted-requires
-step-accepted-requires c κs = (reading-accepted _ (sym (c .before .enum-told .given .1) ∙ c .before .before .before .read .ensures), c .before .before .before .before .if1 .left)
+step-accepted-requires c κs =
+    let b3 = c .before .before .before in
+    let b4 = b3 .before in
+    (reading-accepted _ (sym (c .before .enum-told .given .1) ∙ b3 .read .ensures), b4 .if1 .left)
 
 same-length : tie.Need-same-length
 same-length c = search needs

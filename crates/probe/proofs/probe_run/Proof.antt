@@ -26,8 +26,10 @@ same-length-3 c = search needs
 
 returns : tie.Need-returns
 returns c =
-    let r = c .before .before .before .before .before .before .before .before .before .run .ensures in
-    let e = c .before .before .before .before .enum-told .given .1 in
+    let b4 = c .before .before .before .before in
+    let b9 = b4 .before .before .before .before .before in
+    let r = b9 .run .ensures in
+    let e = b4 .enum-told .given .1 in
     (worked-code _ _ _ _ _ (r .0) e, (r .1 .1 .0, (r .1 .1 .1, worked-left _ _ _ _ _ (r .0) e _ (r .1 .0) _ _ (c .before .before .put-numbers .ensures))))
 
 enum-known-verdict : tie.Need-enum-known-verdict
@@ -37,10 +39,14 @@ cast-result : tie.Need-cast-result
 cast-result c = search needs
 
 mul-result : tie.Need-mul-result
-mul-result c = omega (arith, halted-small _ _ _ _ _ (c .before .before .before .before .before .before .run .ensures .0) _ _ (c .before .verdict .given .1))
+mul-result c =
+    let b6 = c .before .before .before .before .before .before in
+    omega (arith, halted-small _ _ _ _ _ (b6 .run .ensures .0) _ _ (c .before .verdict .given .1))
 
 add-result : tie.Need-add-result
-add-result c = omega (arith, halted-small _ _ _ _ _ (c .before .before .before .before .before .before .run .ensures .0) _ _ (c .before .verdict .given .1))
+add-result c =
+    let b6 = c .before .before .before .before .before .before in
+    omega (arith, halted-small _ _ _ _ _ (b6 .run .ensures .0) _ _ (c .before .verdict .given .1))
 
 same-length-4 : tie.Need-same-length-4
 same-length-4 c = search needs

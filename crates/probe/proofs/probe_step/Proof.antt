@@ -23,9 +23,12 @@ same-length-2 c = search needs
 
 returns : tie.Need-returns
 returns c =
-    let r = c .before .before .before .before .before .before .before .before .step .ensures in
-    let e = c .before .before .before .before .answer .given .1 in
-    (moved-code _ _ _ _ (r .0) _ e, (r .1 .1, moved-left _ _ _ _ (r .0) _ e (r .1 .0) (c .before .before .before .before .before .before .before .before .before .before .before .before .args .movement .now) _ (c .before .put-movement .ensures)))
+    let b4 = c .before .before .before .before in
+    let b8 = b4 .before .before .before .before in
+    let b12 = b8 .before .before .before .before in
+    let r = b8 .step .ensures in
+    let e = b4 .answer .given .1 in
+    (moved-code _ _ _ _ (r .0) _ e, (r .1 .1, moved-left _ _ _ _ (r .0) _ e (r .1 .0) (b12 .args .movement .now) _ (c .before .put-movement .ensures)))
 
 enum-known-answer-2 : tie.Need-enum-known-answer-2
 enum-known-answer-2 c = search needs

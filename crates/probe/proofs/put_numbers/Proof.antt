@@ -25,7 +25,11 @@ same-length c = search needs
 
 returns : tie.Need-returns
 returns c =
-    all-stored _ _ _ _ _ _ _ (c .before .before .before .before .before .before .before .before .before .before .before .before .before .before .before .before .before .before .put-at .ensures) (c .before .before .before .before .before .before .before .before .before .before .before .before .before .before .put-at2 .ensures) (c .before .before .before .before .before .before .before .before .before .before .put-at3 .ensures) (c .before .before .before .before .before .before .put-at4 .ensures)
+    let b6 = c .before .before .before .before .before .before in
+    let b10 = b6 .before .before .before .before in
+    let b14 = b10 .before .before .before .before in
+    let b18 = b14 .before .before .before .before in
+    all-stored _ _ _ _ _ _ _ (b18 .put-at .ensures) (b14 .put-at2 .ensures) (b10 .put-at3 .ensures) (b6 .put-at4 .ensures)
     (c .before .before .put-at5 .ensures)
 
 pub put-numbers-spec : {M : Type 1} → statement M

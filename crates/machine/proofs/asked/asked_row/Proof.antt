@@ -53,8 +53,11 @@ mul-asked-byte c = omega arith
 
 array-copy-out-asked-byte : tie.Need-array-copy-out-asked-byte Inv-loop μ-loop
 array-copy-out-asked-byte c =
-    next-small _ _ _ _ _ (c .before .before .before .before .before .before .loop .inv .1) (omega arith) (c .before .before .before .before .if1 .left) _ refl _
-    (c .before .before .next-at .ensures ∙ ap nextHop (ap (pathAt _) (c .before .before .before .wide .ensures)))
+    let b3 = c .before .before .before in
+    let b4 = b3 .before in
+    let b6 = b4 .before .before in
+    next-small _ _ _ _ _ (b6 .loop .inv .1) (omega arith) (b4 .if1 .left) _ refl _
+    (c .before .before .next-at .ensures ∙ ap nextHop (ap (pathAt _) (b3 .wide .ensures)))
 
 asked-byte-requires : tie.Need-asked-byte-requires Inv-loop μ-loop
 asked-byte-requires c κs = omega arith
@@ -70,10 +73,15 @@ loop-less c = omega arith
 
 loop-again : tie.Need-loop-again Inv-loop μ-loop
 loop-again c =
-    let here = c .before .before .path-at .ensures ∙ ap (pathAt _) (c .before .before .before .wide2 .ensures) in (
+    let b3 = c .before .before .before in
+    let b4 = b3 .before in
+    let b5 = b4 .before in
+    let b6 = b5 .before in
+    let b8 = b6 .before .before in
+    let here = c .before .before .path-at .ensures ∙ ap (pathAt _) (b3 .wide2 .ensures) in (
       omega arith,
-      asked-more _ _ _ _ _ (c .before .before .before .before .before .before .before .before .loop .inv .1) (omega arith) (c .before .before .before .before .before .before .if1 .left) _ here _ _
-          (c .before .before .before .before .next-at .ensures ∙ ap nextHop (ap (pathAt _) (c .before .before .before .before .before .wide .ensures) ∙ sym here)) (c .asked-byte .ensures),
+      asked-more _ _ _ _ _ (b8 .loop .inv .1) (omega arith) (b6 .if1 .left) _ here _ _
+          (b4 .next-at .ensures ∙ ap nextHop (ap (pathAt _) (b5 .wide .ensures) ∙ sym here)) (c .asked-byte .ensures),
     )
 
 returns-2 : tie.Need-returns-2 Inv-loop μ-loop

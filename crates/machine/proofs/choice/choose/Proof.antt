@@ -67,14 +67,17 @@ loop-less c = omega arith
 
 loop-again : tie.Need-loop-again Inv-loop μ-loop
 loop-again c =
-    let a = c .before .before .before .before in
-    let i = c .before .before .before .before .before .before .loop .inv in (
+    let b3 = c .before .before .before in
+    let b4 = b3 .before in
+    let b6 = b4 .before .before in
+    let a = b4 in
+    let i = b6 .loop .inv in (
       omega arith,
       i .1,
       i .2,
       i .3,
       choice-next _ _ _ _ _ (i .2) (i .3) _ (i .4) (omega arith) (a .if2 .left) _ _ _
-          (c .before .before .next-at .ensures ∙ ap nextHop (ap (pathAt _) (c .before .before .before .wide .ensures))) refl refl _ (c .before .is-heard .ensures) (c .if3 .left),
+          (c .before .before .next-at .ensures ∙ ap nextHop (ap (pathAt _) (b3 .wide .ensures))) refl refl _ (c .before .is-heard .ensures) (c .if3 .left),
     )
 
 returns : tie.Need-returns Inv-loop μ-loop
@@ -85,10 +88,13 @@ returns-2 c = let i = c .before .before .loop .inv in choice-empty _ _ _ _ _ (i 
 
 returns-3 : tie.Need-returns-3 Inv-loop μ-loop
 returns-3 c =
-    let a = c .before .before .before .before in
-    let i = c .before .before .before .before .before .before .loop .inv in
+    let b3 = c .before .before .before in
+    let b4 = b3 .before in
+    let b6 = b4 .before .before in
+    let a = b4 in
+    let i = b6 .loop .inv in
     choice-hit _ _ _ _ _ (i .2) (i .3) _ (i .4) (omega arith) (a .if2 .left) _ _ _
-    (c .before .before .next-at .ensures ∙ ap nextHop (ap (pathAt _) (c .before .before .before .wide .ensures))) refl refl _ (c .before .is-heard .ensures) (c .if3 .taken)
+    (c .before .before .next-at .ensures ∙ ap nextHop (ap (pathAt _) (b3 .wide .ensures))) refl refl _ (c .before .is-heard .ensures) (c .if3 .taken)
 
 pub choose-spec : {M : Type 1} → statement M
 choose-spec =

@@ -18,15 +18,21 @@ add-t8 : tie.Need-add-t8
 add-t8 c = omega arith
 
 returns-2 : tie.Need-returns-2
-returns-2 c = counted-up _ _ _ _ _ _ (c .before .before .before .before .if1 .left) _ _ (c .before .before .before .standing-of .ensures) (c .before .before .standing-of2 .ensures) (c .before .if2 .taken)
+returns-2 c =
+    let b3 = c .before .before .before in
+    let b4 = b3 .before in
+    counted-up _ _ _ _ _ _ (b4 .if1 .left) _ _ (b3 .standing-of .ensures) (c .before .before .standing-of2 .ensures) (c .before .if2 .taken)
 
 add-t9 : tie.Need-add-t9
 add-t9 c = omega arith
 
 returns-3 : tie.Need-returns-3
 returns-3 c =
-    let p = c .before .before .before .before .before .pre in
-    counted-down _ _ _ _ _ _ (c .before .before .before .before .if1 .left) (p .0) (p .1) _ _ (c .before .before .before .standing-of .ensures) (c .before .before .standing-of2 .ensures) (c .before .if2 .left)
+    let b3 = c .before .before .before in
+    let b4 = b3 .before in
+    let b5 = b4 .before in
+    let p = b5 .pre in
+    counted-down _ _ _ _ _ _ (b4 .if1 .left) (p .0) (p .1) _ _ (b3 .standing-of .ensures) (c .before .before .standing-of2 .ensures) (c .before .if2 .left)
 
 pub counted-spec : {M : Type 1} → statement M
 counted-spec =

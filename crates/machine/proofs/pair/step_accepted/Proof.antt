@@ -26,8 +26,11 @@ same-length c = search needs
 
 returns : tie.Need-returns
 returns c =
-    let a = c .before .before .before .before .before .before .before .before .before in
-    way-heard _ _ _ (a .pre .0) (a .pre .1) _ _ _ (c .before .before .before .before .before .before .listening-in .ensures) (c .before .before .before .before .before .spoken-in .ensures) (c .before .bad-offset .ensures)
+    let b5 = c .before .before .before .before .before in
+    let b6 = b5 .before in
+    let b9 = b6 .before .before .before in
+    let a = b9 in
+    way-heard _ _ _ (a .pre .0) (a .pre .1) _ _ _ (b6 .listening-in .ensures) (b5 .spoken-in .ensures) (c .before .bad-offset .ensures)
     (c .if1 .taken)
 
 slice-aggregate-is-listening : tie.Need-slice-aggregate-is-listening
@@ -41,25 +44,42 @@ same-length-2 c = search needs
 
 returns-2 : tie.Need-returns-2
 returns-2 c =
-    let a = c .before .before .before .before .before .before .before .before .before .before .before .before in
-    way-pair _ _ _ (a .pre .0) (a .pre .1) _ _ _ (c .before .before .before .before .before .before .before .before .before .listening-in .ensures) (c .before .before .before .before .before .before .before .before .spoken-in .ensures) (c .before .before .before .before .bad-offset .ensures)
-    (c .before .before .before .if1 .left) _ (c .before .is-listening .ensures) (not-true _ (c .if2 .taken))
+    let b3 = c .before .before .before in
+    let b4 = b3 .before in
+    let b8 = b4 .before .before .before .before in
+    let b9 = b8 .before in
+    let b12 = b9 .before .before .before in
+    let a = b12 in
+    way-pair _ _ _ (a .pre .0) (a .pre .1) _ _ _ (b9 .listening-in .ensures) (b8 .spoken-in .ensures) (b4 .bad-offset .ensures)
+    (b3 .if1 .left) _ (c .before .is-listening .ensures) (not-true _ (c .if2 .taken))
 
 work-pair-requires : tie.Need-work-pair-requires
 work-pair-requires c κs =
-    let a = c .before .before .before .before .before .before .before .before .before .before .before .before .before in
-    way-worked _ _ _ (a .pre .0) (a .pre .1) _ _ _ (c .before .before .before .before .before .before .before .before .before .before .listening-in .ensures) (c .before .before .before .before .before .before .before .before .before .spoken-in .ensures) (c .before .before .before .before .before .bad-offset .ensures)
-    (c .before .before .before .before .if1 .left) _ (c .before .before .is-listening .ensures) (not-false _ (c .before .if2 .left))
+    let b4 = c .before .before .before .before in
+    let b5 = b4 .before in
+    let b9 = b5 .before .before .before .before in
+    let b10 = b9 .before in
+    let b13 = b10 .before .before .before in
+    let a = b13 in
+    way-worked _ _ _ (a .pre .0) (a .pre .1) _ _ _ (b10 .listening-in .ensures) (b9 .spoken-in .ensures) (b5 .bad-offset .ensures)
+    (b4 .if1 .left) _ (c .before .before .is-listening .ensures) (not-false _ (c .before .if2 .left))
 
 same-length-3 : tie.Need-same-length-3
 same-length-3 c = search needs
 
 returns-3 : tie.Need-returns-3
 returns-3 c =
-    let a = c .before .before .before .before .before .before .before .before .before .before .before .before .before .before .before .before in
+    let b4 = c .before .before .before .before in
+    let b5 = b4 .before in
+    let b7 = b5 .before .before in
+    let b8 = b7 .before in
+    let b12 = b8 .before .before .before .before in
+    let b13 = b12 .before in
+    let b16 = b13 .before .before .before in
+    let a = b16 in
     let r = c .before .before .work-pair .ensures in
-    way-moved _ _ _ (a .pre .0) (a .pre .1) _ _ _ (c .before .before .before .before .before .before .before .before .before .before .before .before .before .listening-in .ensures) (c .before .before .before .before .before .before .before .before .before .before .before .before .spoken-in .ensures) (c .before .before .before .before .before .before .before .before .bad-offset .ensures)
-    (c .before .before .before .before .before .before .before .if1 .left) _ (c .before .before .before .before .before .is-listening .ensures) (not-false _ (c .before .before .before .before .if2 .left)) _ _ (r .0) (r .1)
+    way-moved _ _ _ (a .pre .0) (a .pre .1) _ _ _ (b13 .listening-in .ensures) (b12 .spoken-in .ensures) (b8 .bad-offset .ensures)
+    (b7 .if1 .left) _ (b5 .is-listening .ensures) (not-false _ (b4 .if2 .left)) _ _ (r .0) (r .1)
 
 pub step-accepted-spec : {M : Type 1} → statement M
 step-accepted-spec =

@@ -23,10 +23,15 @@ clear-requires c κs = c .before .before .before .before .before .before .before
 
 work-pairs-requires : tie.Need-work-pairs-requires
 work-pairs-requires c κs =
-    let p = c .before .before .before .before .before .before .before .before .before .before .before .before .pre in
-    let z = c .before .before .before .clear .ensures in (
+    let b3 = c .before .before .before in
+    let b5 = b3 .before .before in
+    let b6 = b5 .before in
+    let b7 = b6 .before in
+    let b12 = b7 .before .before .before .before .before in
+    let p = b12 .pre in
+    let z = b3 .clear .ensures in (
       ready-cleared _ _ _ _ _ (p .0) (ap length z ∙ tabulate-length _ 64),
-      all-found _ _ _ _ _ (all-slots _ _ (p .0 .accepted) (c .before .before .before .before .before .before .before .slots-of .ensures)) (c .before .before .before .before .before .before .asked-in .ensures) (p .1) (c .before .before .before .before .before .count-pairs .ensures),
+      all-found _ _ _ _ _ (all-slots _ _ (p .0 .accepted) (b7 .slots-of .ensures)) (b6 .asked-in .ensures) (p .1) (b5 .count-pairs .ensures),
       z,
     )
 

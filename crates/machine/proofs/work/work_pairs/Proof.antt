@@ -37,7 +37,9 @@ shared-slice-read-v : tie.Need-shared-slice-read-v Inv-loop μ-loop
 shared-slice-read-v c = omega arith
 
 cast-v : tie.Need-cast-v Inv-loop μ-loop
-cast-v c = omega (arith, pair-worked (c .before .before .loop .inv .1) (c .before .before .loop .inv .3) (omega arith) refl refl .listener)
+cast-v c =
+    let i = c .before .before .loop .inv in
+    omega (arith, pair-worked (i .1) (i .3) (omega arith) refl refl .listener)
 
 mul-u : tie.Need-mul-u Inv-loop μ-loop
 mul-u c = omega arith
@@ -49,52 +51,71 @@ shared-slice-read-u : tie.Need-shared-slice-read-u Inv-loop μ-loop
 shared-slice-read-u c = omega arith
 
 cast-u : tie.Need-cast-u Inv-loop μ-loop
-cast-u c = omega (arith, pair-worked (c .before .before .before .loop .inv .1) (c .before .before .before .loop .inv .3) (omega arith) refl refl .speaker)
+cast-u c =
+    let i = c .before .before .before .loop .inv in
+    omega (arith, pair-worked (i .1) (i .3) (omega arith) refl refl .speaker)
 
 add-i : tie.Need-add-i Inv-loop μ-loop
 add-i c = omega arith
 
 array-read-old : tie.Need-array-read-old Inv-loop μ-loop
-array-read-old c = pair-worked (c .before .before .before .loop .inv .1) (c .before .before .before .loop .inv .3) (omega arith) refl refl .listener
+array-read-old c =
+    let i = c .before .before .before .loop .inv in
+    pair-worked (i .1) (i .3) (omega arith) refl refl .listener
 
 mul-hear : tie.Need-mul-hear Inv-loop μ-loop
-mul-hear c = omega (arith, pair-worked (c .before .before .before .loop .inv .1) (c .before .before .before .loop .inv .3) (omega arith) refl refl .listener)
+mul-hear c =
+    let i = c .before .before .before .loop .inv in
+    omega (arith, pair-worked (i .1) (i .3) (omega arith) refl refl .listener)
 
 array-copy-out-hear : tie.Need-array-copy-out-hear Inv-loop μ-loop
-array-copy-out-hear c = pair-worked (c .before .before .before .loop .inv .1) (c .before .before .before .loop .inv .3) (omega arith) refl refl .listener
+array-copy-out-hear c =
+    let i = c .before .before .before .loop .inv in
+    pair-worked (i .1) (i .3) (omega arith) refl refl .listener
 
 mul-hear-2 : tie.Need-mul-hear-2 Inv-loop μ-loop
-mul-hear-2 c = omega (arith, pair-worked (c .before .before .before .before .loop .inv .1) (c .before .before .before .before .loop .inv .3) (omega arith) refl refl .listener)
+mul-hear-2 c =
+    let i = c .before .before .before .before .loop .inv in
+    omega (arith, pair-worked (i .1) (i .3) (omega arith) refl refl .listener)
 
 array-copy-out-hear-2 : tie.Need-array-copy-out-hear-2 Inv-loop μ-loop
-array-copy-out-hear-2 c = pair-worked (c .before .before .before .before .loop .inv .1) (c .before .before .before .before .loop .inv .3) (omega arith) refl refl .listener
+array-copy-out-hear-2 c =
+    let i = c .before .before .before .before .loop .inv in
+    pair-worked (i .1) (i .3) (omega arith) refl refl .listener
 
 array-read-hear : tie.Need-array-read-hear Inv-loop μ-loop
-array-read-hear c = pair-worked (c .before .before .before .before .before .before .loop .inv .1) (c .before .before .before .before .before .before .loop .inv .3) (omega arith) refl refl .speaker
+array-read-hear c =
+    let i = c .before .before .before .before .before .before .loop .inv in
+    pair-worked (i .1) (i .3) (omega arith) refl refl .speaker
 
 hear-requires : tie.Need-hear-requires Inv-loop μ-loop
 hear-requires c κs =
-    let w = pair-worked (c .before .before .before .before .before .before .loop .inv .1) (c .before .before .before .before .before .before .loop .inv .3) (omega arith) refl refl in
-    let f = c .before .before .before .before .before .before .loop .inv .2 in (
+    let i = c .before .before .before .before .before .before .loop .inv in
+    let w = pair-worked (i .1) (i .3) (omega arith) refl refl in
+    let f = i .2 in (
       slot-row _ _ _ (f .held) (w .listener),
       asked-at _ _ _ (f .bytes) (w .listener),
-      worked-says _ _ _ _ w _ (going-byte _ _ _ _ (c .before .before .before .before .before .before .loop .inv .1) _ _ _ _ _ _ _ _ _ _ (c .before .before .before .before .before .before .loop .inv .3) (omega arith) _ _ refl refl _ (w .speaker)),
+      worked-says _ _ _ _ w _ (going-byte _ _ _ _ (i .1) _ _ _ _ _ _ _ _ _ _ (i .3) (omega arith) _ _ refl refl _ (w .speaker)),
     )
 
 array-write-choices : tie.Need-array-write-choices Inv-loop μ-loop
-array-write-choices c = pair-worked (c .before .before .before .before .before .before .before .before .before .loop .inv .1) (c .before .before .before .before .before .before .before .before .before .loop .inv .3) (omega arith) refl refl .listener
+array-write-choices c =
+    let i = c .before .before .before .before .before .before .before .before .before .loop .inv in
+    pair-worked (i .1) (i .3) (omega arith) refl refl .listener
 
 movement-requires : tie.Need-movement-requires Inv-loop μ-loop
 movement-requires c κs =
+    let i = c .before .before .before .before .before .before .before .before .before .before .loop .inv in
     let h = c .before .before .before .hear .ensures in
-    going-ranks _ _ _ _ (c .before .before .before .before .before .before .before .before .before .before .loop .inv .1) _ _ _ _ _ _ _ _ _ _ (c .before .before .before .before .before .before .before .before .before .before .loop .inv .3) (omega arith) _ _ refl refl
+    going-ranks _ _ _ _ (i .1) _ _ _ _ _ _ _ _ _ _ (i .3) (omega arith) _ _ refl refl
     _ _ _ _ (h .0) refl (h .1) refl
 
 add-requires : tie.Need-add-requires Inv-loop μ-loop
 add-requires c κs =
+    let i = c .before .before .before .before .before .before .before .before .before .before .before .loop .inv in
     let h = c .before .before .before .before .hear .ensures in (
-      omega (arith, pair-worked (c .before .before .before .before .before .before .before .before .before .before .before .loop .inv .1) (c .before .before .before .before .before .before .before .before .before .before .before .loop .inv .3) (omega arith) refl refl .listener, c .before .before .before .before .before .before .before .before .before .before .before .loop .inv .3 .longSums),
-      going-small _ _ _ _ (c .before .before .before .before .before .before .before .before .before .before .before .loop .inv .1) _ _ _ _ _ _ _ _ _ _ (c .before .before .before .before .before .before .before .before .before .before .before .loop .inv .3) (omega arith) _ _ refl refl
+      omega (arith, pair-worked (i .1) (i .3) (omega arith) refl refl .listener, i .3 .longSums),
+      going-small _ _ _ _ (i .1) _ _ _ _ _ _ _ _ _ _ (i .3) (omega arith) _ _ refl refl
           _ _ _ _ (h .0) refl (h .1) (small-told _ _ (moves-small _ _) (c .movement .ensures)),
     )
 
@@ -103,36 +124,43 @@ cast-counted c = omega arith
 
 counted-requires : tie.Need-counted-requires Inv-loop μ-loop
 counted-requires c κs =
+    let i = c .before .before .before .before .before .before .before .before .before .before .before .before .before .loop .inv in
     let h = c .before .before .before .before .before .before .hear .ensures in
-    let r = going-ranks _ _ _ _ (c .before .before .before .before .before .before .before .before .before .before .before .before .before .loop .inv .1) _ _ _ _ _ _ _ _ _ _ (c .before .before .before .before .before .before .before .before .before .before .before .before .before .loop .inv .3) (omega arith) _ _ refl refl
+    let r = going-ranks _ _ _ _ (i .1) _ _ _ _ _ _ _ _ _ _ (i .3) (omega arith) _ _ refl refl
     _ _ _ _ (h .0) refl (h .1) refl in
-    (r .0, r .1, omega (arith, c .before .before .before .before .before .before .before .before .before .before .before .before .before .loop .inv .3 .moves), omega (arith, c .before .before .before .before .before .before .before .before .before .before .before .before .before .loop .inv .3 .moves))
+    (r .0, r .1, omega (arith, i .3 .moves), omega (arith, i .3 .moves))
 
 slice-aggregate-activate : tie.Need-slice-aggregate-activate Inv-loop μ-loop
 slice-aggregate-activate c = omega (arith, c .before .before .before .before .before .before .before .before .before .before .before .before .before .before .before .loop .inv .3 .stamped .size)
 
 mul-activate : tie.Need-mul-activate Inv-loop μ-loop
-mul-activate c = omega (arith, pair-worked (c .before .before .before .before .before .before .before .before .before .before .before .before .before .before .before .loop .inv .1) (c .before .before .before .before .before .before .before .before .before .before .before .before .before .before .before .loop .inv .3) (omega arith) refl refl .listener)
+mul-activate c =
+    let i = c .before .before .before .before .before .before .before .before .before .before .before .before .before .before .before .loop .inv in
+    omega (arith, pair-worked (i .1) (i .3) (omega arith) refl refl .listener)
 
 add-activate : tie.Need-add-activate Inv-loop μ-loop
-add-activate c = omega (arith, pair-worked (c .before .before .before .before .before .before .before .before .before .before .before .before .before .before .before .loop .inv .1) (c .before .before .before .before .before .before .before .before .before .before .before .before .before .before .before .loop .inv .3) (omega arith) refl refl .listener, pair-worked (c .before .before .before .before .before .before .before .before .before .before .before .before .before .before .before .loop .inv .1) (c .before .before .before .before .before .before .before .before .before .before .before .before .before .before .before .loop .inv .3) (omega arith) refl refl .speaker)
+add-activate c =
+    let i = c .before .before .before .before .before .before .before .before .before .before .before .before .before .before .before .loop .inv in
+    omega (arith, pair-worked (i .1) (i .3) (omega arith) refl refl .listener, pair-worked (i .1) (i .3) (omega arith) refl refl .speaker)
 
 activate-requires : tie.Need-activate-requires Inv-loop μ-loop
-activate-requires c κs = going-open _ _ _ _ (c .before .before .before .before .before .before .before .before .before .before .before .before .before .before .before .loop .inv .1) _ _ _ _ _ _ _ _ _ _ (c .before .before .before .before .before .before .before .before .before .before .before .before .before .before .before .loop .inv .3) (omega arith) _ _ refl refl
+activate-requires c κs =
+    let i = c .before .before .before .before .before .before .before .before .before .before .before .before .before .before .before .loop .inv in
+    going-open _ _ _ _ (i .1) _ _ _ _ _ _ _ _ _ _ (i .3) (omega arith) _ _ refl refl
 
 loop-less : tie.Need-loop-less Inv-loop μ-loop
 loop-less c = omega arith
 
 loop-again : tie.Need-loop-again Inv-loop μ-loop
 loop-again c =
+    let i = c .before .before .before .before .before .before .before .before .before .before .before .before .before .before .before .before .before .loop .inv in
     let h = c .before .before .before .before .before .before .before .before .before .before .hear .ensures in
     let a = c .before .activate .ensures in
-    let n = c .before .before .before .counted .ensures in
-    let i = c .before .before .before .before .before .before .before .before .before .before .before .before .before .before .before .before .before .loop .inv in (
+    let n = c .before .before .before .counted .ensures in (
       omega arith,
       i .1,
       i .2,
-      going-more _ _ _ _ (c .before .before .before .before .before .before .before .before .before .before .before .before .before .before .before .before .before .loop .inv .1) _ _ _ _ _ _ _ _ _ _ (c .before .before .before .before .before .before .before .before .before .before .before .before .before .before .before .before .before .loop .inv .3) (omega arith) _ _ refl refl
+      going-more _ _ _ _ (i .1) _ _ _ _ _ _ _ _ _ _ (i .3) (omega arith) _ _ refl refl
           _ _ _ _ (h .0) refl (h .1) (small-told _ _ (moves-small _ _) (c .before .before .before .before .before .before .movement .ensures)) _ _ _ _ (a .0) (a .1 .0) (a .1 .1) (i .2 .pairs)
           _ _ _ _ _ _ refl (c .before .before .before .before .before .add .ensures) refl (n .0) (n .1 .0) (n .1 .1),
     )
