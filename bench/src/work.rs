@@ -1,7 +1,7 @@
 //! What is measured: a check, a step or a run, by the proved code or by the second program, on the same bytes.
 
 use second::limits::{HEARD_BYTES, RING_BYTES, ROWS_BYTES, VERTICES};
-use second::{Refusal, RunNumbers, Verdict};
+use second::{Refusal, Verdict};
 
 use crate::probe;
 
@@ -186,7 +186,7 @@ impl Work for Run {
         let heard = self.state.fresh();
         match second::run(&self.table, heard, &self.schedule, &mut self.sums) {
             Ok(numbers) => {
-                self.numbers = in_order(numbers);
+                self.numbers = numbers.in_order();
                 0
             }
             Err(refusal) => refusal.code(),
@@ -196,15 +196,4 @@ impl Work for Run {
     fn numbers(&self) -> String {
         self.numbers.map(|number| number.to_string()).join(" ")
     }
-}
-
-fn in_order(numbers: RunNumbers) -> [u32; 5] {
-    let RunNumbers {
-        steps,
-        ups,
-        downs,
-        last_change,
-        rounds,
-    } = numbers;
-    [steps, ups, downs, last_change, rounds]
 }

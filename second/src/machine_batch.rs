@@ -35,14 +35,9 @@ pub fn run_batch(input: impl BufRead, output: impl Write) -> io::Result<()> {
             Err(refusal) => (refusal.code(), RunNumbers::default()),
         };
         write!(output, "{code}")?;
-        let RunNumbers {
-            steps,
-            ups,
-            downs,
-            last_change,
-            rounds,
-        } = numbers;
-        write!(output, " {steps} {ups} {downs} {last_change} {rounds}")?;
+        for number in numbers.in_order() {
+            write!(output, " {number}")?;
+        }
         let text = run_program_text(table, schedule);
         let (heard, sums, text) = (hex(&heard), with_commas(&sums), hex(text.as_bytes()));
         writeln!(output, " {heard} {sums} {text}")

@@ -66,6 +66,17 @@ fn run_accepted(table: &Table, state: &mut [u8], schedule: &[u8], sums: &mut [i3
 }
 
 impl RunNumbers {
+    /// The numbers in the order of the rules.
+    pub fn in_order(self) -> [u32; 5] {
+        [
+            self.steps,
+            self.ups,
+            self.downs,
+            self.last_change,
+            self.rounds,
+        ]
+    }
+
     /// Above 0 is an up, below 0 a down; ranks of one owner all differ, so
     /// the choice changed exactly if the movement is not 0 ("The machine").
     fn count(&mut self, movement: i32) {

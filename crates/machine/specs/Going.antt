@@ -25,7 +25,7 @@ pub record Ready (t heard schedule : List ℕ) (sums : List ℤ) : Type 0 where
   pub longSums : length sums ≡ 64
 
 -- what serves every step: the slots, what has to be heard, and how many pairs listen
-pub record Found (t : List ℕ) (slots asked : List (List ℕ)) (all : ℕ) : Type 0 where
+pub record Prepared (t : List ℕ) (slots asked : List (List ℕ)) (all : ℕ) : Type 0 where
   pub held : Slots t slots
   pub bytes : asked ≡ tabulate (askedRow (pathsOf t)) 64
   pub pairs : all ≡ countBelow (listensAt (pathsOf t)) 4096

@@ -29,7 +29,7 @@ use Rattle.machine.specs.Counts.{moved, lastOf}
 use Rattle.machine.specs.Rounds.{newlyAt, missingAfter, leftAfter, Open, Stamped}
 use Rattle.machine.specs.RoundLaws.{more-most, stamped-none, newly-most, closed-on, stamped-on}
 use Rattle.machine.specs.StepLaws.{listening-worked, worked-small, worked-moved}
-use Rattle.machine.specs.Going.{Ready, Found, tallyAt, Going}
+use Rattle.machine.specs.Going.{Ready, Prepared, tallyAt, Going}
 use Rattle.machine.specs.Ran.{accepted}
 
 -- the choices after a step: the listener's is new
@@ -72,7 +72,7 @@ module _ (t start schedule : List ℕ) (sumsLent : List ℤ) (r : Ready t start 
   tally-start = fold-nil (activated paths (listeningOffsets paths)) (begun start)
 
   pub going-start : (slots asked : List (List ℕ)) (all : ℕ) (choices : List ℕ) (sums : List ℤ)
-      → Found t slots asked all
+      → Prepared t slots asked all
       → choices ≡ choiceBytes paths start
       → sums ≡ tabulate (λ v. pos 0) 64
       → Going t start schedule 0 start choices sums 0 0 0 (replicate 4096 0) 0 all

@@ -28,7 +28,7 @@ use Rattle.state.specs.JudgedLaws.{fault-none, fault-some, pairs-none, pairs-so
 use Rattle.machine.specs.Asked.{Slots, askedRow}
 use Rattle.machine.specs.Rounds.{markCount}
 use Rattle.machine.specs.RoundLaws.{marks-count}
-use Rattle.machine.specs.Going.{Ready, Found}
+use Rattle.machine.specs.Going.{Ready, Prepared}
 use Rattle.machine.specs.Ran.{accepted, refused, Ran}
 
 module _ (table heard s : List ℕ) (sums : List ℤ) where
@@ -111,13 +111,13 @@ module _ (t heard s : List ℕ) (sums : List ℤ) (e : refusal t ≡ none) (n : 
             ran-accepted t heard s sums a after sumsNow (run-accepted t heard s sums n m e fine (whole-fine s even short) listens)
 
 -- what serves every step is found
-pub all-found : (t : List ℕ) (slots asked : List (List ℕ)) (all : ℕ) (marks : List Bool)
+pub all-prepared : (t : List ℕ) (slots asked : List (List ℕ)) (all : ℕ) (marks : List Bool)
     → Slots t slots
     → asked ≡ tabulate (askedRow (pathsOf t)) 64
     → marks ≡ tabulate (listensAt (pathsOf t)) 4096
     → all ≡ markCount marks 4096
-    → Found t slots asked all
-all-found t slots asked all marks s a listen c = record { held = s; bytes = a; pairs = c ∙ marks-count (listensAt (pathsOf t)) 4096 marks listen }
+    → Prepared t slots asked all
+all-prepared t slots asked all marks s a listen c = record { held = s; bytes = a; pairs = c ∙ marks-count (listensAt (pathsOf t)) 4096 marks listen }
 
 -- the marks are 4,096
 pub marks-long : (t : List ℕ) (marks : List Bool) → marks ≡ tabulate (listensAt (pathsOf t)) 4096 → length marks ≡ 4096

@@ -5,7 +5,7 @@ ghost use lib.IntN.{pos};
 ghost use Rattle.lists.specs.Fill.{tabulate};
 ghost use Rattle.rules.specs.Table.{pathsOf, listensAt};
 ghost use Rattle.rules.specs.Run.{pairsIn, run};
-ghost use Rattle.machine.specs.Going.{Ready, Found};
+ghost use Rattle.machine.specs.Going.{Ready, Prepared};
 ghost use Rattle.machine.specs.Ran.{accepted};
 use crate::asked::asked_in;
 use crate::choice::choice_bytes;
@@ -47,7 +47,7 @@ fn work_pairs(
     schedule: &[u8],
     sums: &mut [i32],
 ) -> RunAnswer
-    requires { ⌜ Ready (now t) (now heard) (now schedule) (now sums) × Found (now t) slots asked all × (now sums ≡ tabulate (λ v. pos 0) 64) ⌝ }
+    requires { ⌜ Ready (now t) (now heard) (now schedule) (now sums) × Prepared (now t) slots asked all × (now sums ≡ tabulate (λ v. pos 0) 64) ⌝ }
     ensures answer { λ r. ⌜ r ≡ accepted (run (pathsOf (now (t .entry))) (now (heard .entry)) (pairsIn (now (schedule .entry)))) ⌝ }
     ensures heard { λ r. ⌜ now (heard .exit) ≡ run (pathsOf (now (t .entry))) (now (heard .entry)) (pairsIn (now (schedule .entry))) .heard ⌝ }
     ensures sums { λ r. ⌜ now (sums .exit) ≡ run (pathsOf (now (t .entry))) (now (heard .entry)) (pairsIn (now (schedule .entry))) .sums ⌝ }

@@ -5,7 +5,7 @@ use borrow.Author.Needs.{needs}
 use lib.ListN.{length}
 use Rattle.lists.specs.FillLaws.{tabulate-length}
 use Rattle.machine.specs.AskedLaws.{all-slots}
-use Rattle.machine.specs.RanLaws.{all-found, marks-long, ready-cleared}
+use Rattle.machine.specs.RanLaws.{all-prepared, marks-long, ready-cleared}
 use Rattle.machine.proofs.work.work.Statement.{statement}
 use Rattle.machine.proofs.work.work.Tie as tie
 
@@ -31,7 +31,7 @@ work-pairs-requires c κs =
     let p = b12 .pre in
     let z = b3 .clear .ensures in (
       ready-cleared _ _ _ _ _ (p .0) (ap length z ∙ tabulate-length _ 64),
-      all-found _ _ _ _ _ (all-slots _ _ (p .0 .accepted) (b7 .slots-of .ensures)) (b6 .asked-in .ensures) (p .1) (b5 .count-pairs .ensures),
+      all-prepared _ _ _ _ _ (all-slots _ _ (p .0 .accepted) (b7 .slots-of .ensures)) (b6 .asked-in .ensures) (p .1) (b5 .count-pairs .ensures),
       z,
     )
 

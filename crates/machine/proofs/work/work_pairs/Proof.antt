@@ -7,7 +7,7 @@ use lib.ListN.{length}
 use Rattle.machine.specs.AskedLaws.{slot-row, asked-at}
 use Rattle.machine.specs.MoveLaws.{small-told, moves-small}
 use Rattle.machine.specs.StepLaws.{worked-says}
-use Rattle.machine.specs.Going.{Ready, Found, Going}
+use Rattle.machine.specs.Going.{Ready, Prepared, Going}
 use Rattle.machine.specs.GoingLaws.{going-start, pair-worked, going-byte, going-open, going-ranks, going-small, going-more, going-heard, going-sums, going-answer}
 use Rattle.machine.proofs.work.work_pairs.Statement.{statement}
 use Rattle.machine.proofs.work.work_pairs.Tie as tie
@@ -16,7 +16,7 @@ abbrev Inv-loop : tie.InvT-loop
 Inv-loop t all heard₀ schedule sums₀ slots asked choices₀ stamps₀ counts₀ rounds₀ i₀ heard sums choices stamps counts rounds i =
     (i ≤ length schedule / 2)
     × Ready t heard₀ schedule sums₀
-    × Found t slots asked all
+    × Prepared t slots asked all
     × Going t heard₀ schedule i heard choices sums (counts .ups) (counts .downs) (counts .last) stamps (rounds .closed) (rounds .missing)
 
 abbrev μ-loop : tie.MeasureT-loop
