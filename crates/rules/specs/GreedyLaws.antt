@@ -96,6 +96,9 @@ module _ (paths : ℕ → List Path) (present : ℕ → Bool) where
       let z : 0 + k ≡ k = omega arith in
       rw z at (settled-later 0 k 0 (0 ∷ []) (settled-zero 0 (omega arith)))
 
+  pub origin-path : (k v : ℕ) (p : Path) → v ≡ 0 → settled paths present k v ≡ some p → p ≡ 0 ∷ []
+  origin-path k v p z e = settled-once k k 0 p (0 ∷ []) (ap (settled paths present k) (sym z) ∙ e) (settled-origin k)
+
   -- whoever is judged to settle does so with the path judged
   pub judged-path : (S : Settled) (q p : Path) → judged S q ≡ some p → p ≡ q
   unfolding judged
@@ -111,6 +114,18 @@ module _ (paths : ℕ → List Path) (present : ℕ → Bool) where
   judged-next S [] p e = inl refl
   judged-next S (v ∷ q) p e =
       inr (by-test (isSettled (S (nextHop (v ∷ q)))) (λ r. r) (λ r. absurd (none≢some {o = none} refl (rw (r, judged) at e))))
+
+  -- who is new after a stage was present and judged so before it
+  pub newly-judged : (k v : ℕ) (p : Path)
+      → settled paths present k v ≡ none
+      → settled paths present (suc k) v ≡ some p
+      → (present v ≡ true) × (judged (settled paths present k) (best paths (settled paths present k) v) ≡ some p)
+  newly-judged k v p h e =
+      let S = settled paths present k in
+      let stepped : stage paths present S v ≡ some p = sym (settled-suc k v (settled-range (suc k) v p e)) ∙ e in
+      by-test (present v)
+      (λ q. (q, sym (stage-judges S v h q) ∙ stepped))
+      (λ q. absurd (none≢some (stage-absent S v h q) stepped))
 
   -- How a vertex other than 0 came to be settled with p within k stages: once, before that, it was unsettled and judged so.
   pub record Entry (k v : ℕ) (p : Path) : Type 0 where
@@ -130,20 +145,10 @@ module _ (paths : ℕ → List Path) (present : ℕ → Bool) where
       older : Entry k v p → Entry (suc k) v p
       older r = record { at = r .at; before = omega (arith, r .before); new = r .new; here = r .here; judgement = r .judgement }
 
-      stepped : stage paths present (settled paths present k) v ≡ some p
-      stepped = sym (settled-suc k v (settled-range (suc k) v p e)) ∙ e
-
       new-here : settled paths present k v ≡ none → Entry (suc k) v p
       new-here h =
-          by-test (present v)
-          (λ q. record {
-            at = k;
-            before = omega arith;
-            new = h;
-            here = q;
-            judgement = sym (stage-judges (settled paths present k) v h q) ∙ stepped;
-          })
-          (λ q. absurd (none≢some (stage-absent (settled paths present k) v h q) stepped))
+          let r = newly-judged k v p h e in
+          record { at = k; before = omega arith; new = h; here = r .0; judgement = r .1 }
 
   -- it settles with what was then its best compatible path
   pub entered-best : {k v : ℕ} {p : Path} (r : Entry k v p) → p ≡ best paths (settled paths present (r .at)) v

@@ -1,6 +1,6 @@
 -- Laws of the first path that passes a test, and of a path's place in a list of paths.
 use mathlib.Core.Path.{_≡_, refl, sym, _∙_}
-use mathlib.Core.Logic.{_⊎_, inl, inr}
+use mathlib.Core.Logic.{_≢_, _⊎_, inl, inr}
 use mathlib.Core.Bool.{Bool, true, false}
 use mathlib.Core.List.{List, [], _∷_}
 use Prim.Native.Nat.{ℕ, zero, suc, _<_, _≤_}
@@ -116,6 +116,14 @@ module _ (test : Path → Bool) where
       go : First test ps → Picked test ps (first test ps)
       go (missing q f) = absurd (true≢ e (f k h))
       go (found r) = r
+
+  -- a first other than none is one of the paths and passes
+  pub first-taken : (ps : List Path) (p : Path) → p ≢ [] → first test ps ≡ p → Stands ps p × (test p ≡ true)
+  first-taken ps p f e = go (first-cases ps)
+    where
+      go : First test ps → Stands ps p × (test p ≡ true)
+      go (missing q g) = absurd (f (sym e ∙ q))
+      go (found r) = (rw e at (r .stands), rw e at (r .passes))
 
 -- where g fails wherever f fails, and passes where f picks, both pick the same
 pub first-agrees : (f g : Path → Bool) (ps : List Path)

@@ -1,0 +1,4 @@
+pub mod LastingLaws
+pub mod EnteringLaws
+pub mod StageLaws
+pub mod AgreementLaws
