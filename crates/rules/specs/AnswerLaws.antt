@@ -1,5 +1,5 @@
 -- Laws of the refusals of the check, the step and the run: one for each way through the entries.
-use mathlib.Core.Path.{_≡_, _∙_}
+use mathlib.Core.Path.{_≡_, refl, _∙_}
 use mathlib.Core.Bool.{Bool, true, false, _||_}
 use mathlib.Core.List.{List, [], _∷_}
 use mathlib.Core.Option.{Option, none, some}
@@ -7,7 +7,7 @@ use Prim.Native.Nat.{ℕ}
 use native.Mathlib.Omega.{arith}
 use lib.ListN.{length}
 use lib.IntN.{ℤ}
-use Rattle.lists.specs.Tests.{by-less, or-left, or-right, neither, is-inside, below-out, above-out}
+use Rattle.lists.specs.Tests.{by-less, none≢some, or-none, or-left, or-right, neither, inside, is-inside, below-out, above-out}
 use Rattle.lists.specs.Search.{firstIn}
 use Rattle.rules.specs.Table.{pathsOf, listens}
 use Rattle.rules.specs.Refusals.{Refusal, refusal, refusedIf, refusedAt, _orElse_}
@@ -142,3 +142,66 @@ module _ (table heard s : List ℕ) (sums : List ℤ) where
           pub run-accepted : firstBadPair (pathsOf table) (pairsIn s) ≡ none → runRefusal table heard s sums ≡ none
           unfolding refusedAt
           run-accepted e = by-schedule ∙ if-passes _ 13 _ whole ∙ rw e
+
+-- What an accepted step or run says of its inputs.
+pub record Admitted (table heard : List ℕ) (s : List Pair) : Type 0 where
+  pub long : length heard ≡ 4096
+  pub accepted : refusal table ≡ none
+  pub valid : heardFault (pathsOf table) heard ≡ none
+  pub listening : firstBadPair (pathsOf table) s ≡ none
+
+if-none : (test : Bool) (n : ℕ) → refusedIf test n ≡ none → test ≡ false
+unfolding refusedIf
+if-none true n e = absurd (none≢some e refl)
+if-none false n e = refl
+
+at-none : (found : Option ℕ) (n : ℕ) → refusedAt found n ≡ none → found ≡ none
+unfolding refusedAt
+at-none none n e = refl
+at-none (some k) n e = absurd (none≢some e refl)
+
+both-none : (a b : Option Refusal) → a orElse b ≡ none → (a ≡ none) × (b ≡ none)
+unfolding _orElse_
+both-none none b e = (refl, e)
+both-none (some r) b e = absurd (none≢some e refl)
+
+right-length : {A : Type 0} (n : ℕ) (l : List A) → otherLength n l ≡ false → length l ≡ n
+unfolding otherLength
+right-length n l e = let r = inside n n (length l) e in omega arith
+
+-- the checks that the step and the run have in common
+common-none : (wrong : Bool) (table : Option Refusal) (fault : Option ℕ) (rest : Option Refusal)
+    → checks wrong table fault rest ≡ none
+    → ((wrong ≡ false) × (table ≡ none)) × ((fault ≡ none) × (rest ≡ none))
+common-none wrong table fault rest e =
+    let a = both-none (refusedIf wrong 1) (table orElse refusedAt fault 12 orElse rest) e in
+    let b = both-none table (refusedAt fault 12 orElse rest) (a .1) in
+    let c = both-none (refusedAt fault 12) rest (b .1) in
+    ((if-none wrong 1 (a .0), b .0), (at-none fault 12 (c .0), c .1))
+
+pub step-admitted : (table heard : List ℕ) (p : Pair) → stepRefusal table heard p ≡ none → Admitted table heard (p ∷ [])
+unfolding stepRefusal
+step-admitted table heard p e =
+    let c = common-none (otherLength 4096 heard) (refusal table) (heardFault (pathsOf table) heard)
+    (refusedAt (firstBadPair (pathsOf table) (p ∷ [])) 14) e in
+    record {
+      long = right-length 4096 heard (c .0 .0);
+      accepted = c .0 .1;
+      valid = c .1 .0;
+      listening = at-none (firstBadPair (pathsOf table) (p ∷ [])) 14 (c .1 .1);
+    }
+
+pub run-admitted : (table heard s : List ℕ) (sums : List ℤ)
+    → runRefusal table heard s sums ≡ none
+    → Admitted table heard (pairsIn s)
+unfolding runRefusal
+run-admitted table heard s sums e =
+    let lent = otherLength 4096 heard || otherLength 64 sums in
+    let pairs = firstBadPair (pathsOf table) (pairsIn s) in
+    let c = common-none lent (refusal table) (heardFault (pathsOf table) heard) (refusedIf (scheduleBad s) 13 orElse refusedAt pairs 14) e in
+    record {
+      long = right-length 4096 heard (or-none (otherLength 4096 heard) (otherLength 64 sums) (c .0 .0) .0);
+      accepted = c .0 .1;
+      valid = c .1 .0;
+      listening = at-none pairs 14 (both-none (refusedIf (scheduleBad s) 13) (refusedAt pairs 14) (c .1 .1) .1);
+    }

@@ -1,6 +1,6 @@
 -- The rules page, "Tables tried by hand": the nine starred cases, a run that repeats a pair, and two tables with a router in two
 -- blocks, as one list and one statement about the definitions.
-use Prim.Native.Nat.{ℕ, suc, pred, _*_}
+use Prim.Native.Nat.{ℕ, suc, pred}
 use mathlib.Core.Path.{_≡_, refl}
 use mathlib.Core.Bool.{true, false, not, _&&_}
 use mathlib.Core.List.{List, [], _∷_, _++_, map}
@@ -15,7 +15,7 @@ use Rattle.rules.specs.Table.{Path, recordAt, records, rankOf, hopsOf, p
 use Rattle.rules.specs.Refusals.{_orElse_, hopsBad, vertexBad, unusedOf, fillerBad, twiceBad, lastBad, ownerBad, rankDue, rankBad, pathBad, inRecord, rule, recordRules, firstBroken, fault, faulty, firstBad, tooLong, ragged, refusal, refusedIf, refusedAt, badRecord}
 use Rattle.rules.specs.Greedy.{isSettled, compatible, atStart, best, judged, stage, settledList, settled, enters, quiet, stageCount, stageOf, stuckIn, follows, fromVertex, beforeVertex, closedPart, lowestOf, turned, ringFrom}
 use Rattle.rules.specs.Stable.{extends, bestGiven}
-use Rattle.rules.specs.Report.{Report, placeIn, rankIn, rowBytes, row, report}
+use Rattle.rules.specs.Report.{Report, placeIn, rankIn, rowBytes, row, rowAt, vertices, pathShown, report}
 use Rattle.rules.specs.Machine.{Pair, offsetOf, speaks, byteFor, pathFor, badAt, badByte, heardFault, lastHeard, choice, step, standingOf, standing, movement}
 use Rattle.rules.specs.Run.{Tally, pairsIn, isUp, isDown, more, listeningOffsets, closes, begun, activated, run}
 use Rattle.rules.specs.Answers.{otherLength, scheduleBad, firstBadPair, runRefusal}
@@ -43,12 +43,8 @@ pub data Outcome : Type 0 where
   checked : (lines : List (List ℕ)) (stages hops : ℕ) (ring : List ℕ) → Outcome
   ran : (movements : List ℤ) (ups downs lastChange rounds : ℕ) (sums : List ℤ) → Outcome
 
-unfoldable pub vertices : List ℕ → List ℕ
-vertices [] = []
-vertices (v ∷ vs) = elim (eqb v 255) [ true ↦ [] | false ↦ v ∷ vertices vs ]
-
 unfoldable pub lineOf : List ℕ → ℕ → List ℕ
-lineOf rows v = v ∷ take 2 (drop (16 * v) rows) ++ vertices (take 13 (drop 3 (drop (16 * v) rows)))
+lineOf rows v = v ∷ take 2 (rowAt rows v) ++ pathShown (rowAt rows v)
 
 unfoldable pub checkedOf : List ℕ → Report → Outcome
 checkedOf t r =
@@ -191,6 +187,6 @@ unfolding refusedIf refusedAt _orElse_ otherLength scheduleBad firstBadPair runR
     enters quiet stageCount stageOf stuckIn follows fromVertex beforeVertex closedPart lowestOf turned ringFrom
     extends bestGiven placeIn rankIn rowBytes row report offsetOf speaks byteFor pathFor badAt badByte heardFault lastHeard
     choice step standingOf standing movement pairsIn isUp isDown more listeningOffsets closes begun activated run
-    recordBytes blockBytes tableBytes vertices lineOf checkedOf movements ranOf outcome table3 table7 empty direct
+    rowAt vertices pathShown recordBytes blockBytes tableBytes lineOf checkedOf movements ranOf outcome table3 table7 empty direct
     disagree threeRing shortcut silent chain firstMoves withdrawn heardAgain blocksApart blocksAdjacent examples
 worked = refl

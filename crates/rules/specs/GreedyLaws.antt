@@ -30,6 +30,14 @@ unfolding isSettled
 is-some none e = absurd (true≢ {b = false} e refl)
 is-some (some p) e = (p, refl)
 
+-- a path that stands among those of a vertex is permitted to it
+pub stands-permitted : (paths : ℕ → List Path) (present : ℕ → Bool)
+    → Shaped paths present
+    → (v : ℕ) (p : Path)
+    → Stands (paths v) p
+    → Permitted present v p
+stands-permitted paths present shaped v p s = rw (s .there) at (shaped .permitted v (s .place) (s .under))
+
 module _ (paths : ℕ → List Path) (present : ℕ → Bool) where
   -- at the start
   pub settled-zero : (v : ℕ) → v < 64 → settled paths present 0 v ≡ atStart v
@@ -172,7 +180,7 @@ module _ (paths : ℕ → List Path) (present : ℕ → Bool) where
       → settled paths present k v ≡ some p
       → (p ≡ []) ⊎ Permitted present v p
   settled-permitted shaped k v p n e =
-      ⊎-map (λ q. q) (λ s. rw (← s .there) (shaped .permitted v (s .place) (s .under))) (settled-own k v p n e)
+      ⊎-map (λ q. q) (stands-permitted paths present shaped v p) (settled-own k v p n e)
 
   -- the counted stages
 

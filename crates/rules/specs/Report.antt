@@ -1,9 +1,9 @@
 -- The rules page, "What the check gives back".
-use Prim.Native.Nat.{ℕ, zero, suc, pred}
+use Prim.Native.Nat.{ℕ, zero, suc, pred, _*_}
 use mathlib.Core.Bool.{Bool, true, false, not, _&&_}
 use mathlib.Core.List.{List, [], _∷_}
 use mathlib.Core.Option.{none, some}
-use lib.ListN.{length}
+use lib.ListN.{length, take, drop}
 use lib.Dec.{eqb}
 use Rattle.lists.specs.Search.{countBelow, same}
 use Rattle.lists.specs.Fill.{blocks, padded}
@@ -34,6 +34,19 @@ module _ (paths : ℕ → List Path) (isPresent : ℕ → Bool) where
           | some p ↦ rowBytes (stageOf paths isPresent v) (rankIn paths v p) p
         ]
       ]
+
+-- "Each vertex writes only its own 16-byte part of the rows, starting at 16 times its number"
+unfoldable pub rowAt : List ℕ → ℕ → List ℕ
+rowAt rows v = take 16 (drop (16 * v) rows)
+
+-- "the vertices, then 255": the numbers before the first 255
+unfoldable pub vertices : List ℕ → List ℕ
+vertices [] = []
+vertices (v ∷ vs) = elim (eqb v 255) [ true ↦ [] | false ↦ v ∷ vertices vs ]
+
+-- "bytes 3 to 15 the vertices, then 255": the path that a row shows, [] where it shows none
+unfoldable pub pathShown : List ℕ → Path
+pathShown row = vertices (drop 3 row)
 
 -- The check's numbers and the two buffers.
 pub record Report : Type 0 where

@@ -1,23 +1,24 @@
 -- Laws of the report: how long the two buffers are, what the counts add up to, and where there is a ring.
-use mathlib.Core.Path.{_≡_, ap, _∙_}
+use mathlib.Core.Path.{_≡_, refl, ap, _∙_}
 use mathlib.Core.Bool.{Bool, true, false, not, _&&_}
-use mathlib.Core.List.{List}
+use mathlib.Core.List.{List, [], _∷_, _++_}
 use mathlib.Core.Option.{Option}
-use Prim.Native.Nat.{ℕ, _+_, _<_, _≤_}
+use Prim.Native.Nat.{ℕ, zero, suc, _+_, _-_, _<_, _≤_}
 use native.Mathlib.Omega.{arith}
-use lib.ListN.{length}
+use lib.ListN.{length, getD, replicate}
 use lib.Dec.{eqb}
 use borrow.Author.Tests.{ne-eqb}
 use Rattle.lists.specs.Search.{countBelow}
 use Rattle.lists.specs.Tests.{by-test, by-equal, by-option, true≢, and-first, and-second}
 use Rattle.lists.specs.SearchLaws.{count-ext, count-parts}
-use Rattle.lists.specs.FillLaws.{blocks-length, padded-length}
+use Rattle.lists.specs.Fill.{padded}
+use Rattle.lists.specs.FillLaws.{blocks-length, blocks-at, padded-length, padded-whole}
 use Rattle.rules.specs.Table.{Path, pathsOf, present}
 use Rattle.rules.specs.Greedy.{Settled, isSettled, stageCount, stuckIn}
 use Rattle.rules.specs.Shape.{Shaped}
 use Rattle.rules.specs.GreedyLaws.{is-some, settled-present, settled-origin}
 use Rattle.rules.specs.RingLaws.{final, isStuck, onward, ring-holds, ring-none}
-use Rattle.rules.specs.Report.{rowBytes, row, report}
+use Rattle.rules.specs.Report.{rowBytes, row, rowAt, vertices, report}
 
 -- a row's bytes are 16, whatever they hold
 pub row-bytes-length : (mark rank : ℕ) (p : Path) → length (rowBytes mark rank p) ≡ 16
@@ -43,6 +44,25 @@ rows-length t =
 pub ring-length : (t : List ℕ) → length (report t .ring) ≡ 64
 unfolding report
 ring-length t = padded-length 255 64 _
+
+-- a vertex's own part of the rows is its row
+pub row-part : (t : List ℕ) (v : ℕ) → v < 64 → rowAt (report t .rows) v ≡ row (pathsOf t) (present t) (final (pathsOf t) (present t)) v
+unfolding report rowAt
+row-part t v h =
+    let S : Settled = final (pathsOf t) (present t) in
+    blocks-at (row (pathsOf t) (present t) S) 16 (row-length (pathsOf t) (present t) S) 64 v h
+
+-- the vertices of a path are those before the first 255, where they are below 64
+pub vertices-padded : (p : Path) → length p ≤ 13 → ((k : ℕ) → k < length p → getD p k 0 < 64) → vertices (padded 13 255 p) ≡ p
+unfolding vertices
+vertices-padded p h small = ap vertices (padded-whole 255 13 p h) ∙ before p (13 - length p) small
+  where
+    before : (p : Path) (n : ℕ) → ((k : ℕ) → k < length p → getD p k 0 < 64) → vertices (p ++ replicate n 255) ≡ p
+    before [] zero small = refl
+    before [] (suc n) small = refl
+    before (x ∷ p) n small =
+        rw (ne-eqb x 255 (λ e. omega (arith, small 0 (omega arith))), vertices)
+        (ap (λ (l : List ℕ). x ∷ l) (before p n (λ k l. small (suc k) (omega arith))))
 
 module _ (paths : ℕ → List Path) (isPresent : ℕ → Bool) (shaped : Shaped paths isPresent) where
   -- the settled and the stuck vertices are the present ones, all without vertex 0

@@ -310,3 +310,18 @@ module _ (paths : ℕ → List Path) (heard : List ℕ) (s : List Pair) where
   pub rounds-none : listeningOffsets paths ≡ [] → run paths heard s .rounds ≡ 0
   unfolding run begun activated closes more
   rounds-none e = rw e (fold-keeps (activated paths []) (λ y. y .rounds ≡ 0) (λ y p h. h) (begun heard) s refl)
+
+-- Two runs one after the other, each counting from its own start, count no more rounds than one run over the whole: a round that begins
+-- in the first and ends in the second is counted by the whole alone.
+pub rounds-add : (paths : ℕ → List Path) (heard later : List ℕ) (s t : List Pair)
+    → run paths heard s .rounds + run paths later t .rounds ≤ run paths heard (s ++ t) .rounds
+rounds-add paths heard later s t = go (listeningOffsets paths) refl
+  where
+    go : (pairs : List ℕ)
+        → listeningOffsets paths ≡ pairs
+        → run paths heard s .rounds + run paths later t .rounds ≤ run paths heard (s ++ t) .rounds
+    go [] e = omega (arith, rounds-none paths heard s e, rounds-none paths later t e)
+    go (k ∷ ks) e =
+        rounds-greatest paths heard (s ++ t) (λ z. omega (arith, ap length (sym e ∙ z))) (run paths heard s .rounds + run paths later t .rounds)
+        (contains-add (listeningOffsets paths) (run paths heard s .rounds) (run paths later t .rounds) s t (rounds-contained paths heard s)
+        (rounds-contained paths later t))

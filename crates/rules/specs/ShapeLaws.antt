@@ -12,9 +12,9 @@ use lib.Dec.{eqb}
 use borrow.Author.Tests.{eqb-true, eqb-false}
 use Rattle.lists.specs.Search.{anyBelow, anyIn, elem, outside}
 use Rattle.lists.specs.Tests.{by-test, inside, or-cases, or-none, or-right}
-use Rattle.lists.specs.SearchLaws.{any-below, some-below}
+use Rattle.lists.specs.SearchLaws.{any-below, some-below, max-bounds}
 use Rattle.lists.specs.ListLaws.{none-at, elem-at, elem-place, twice-apart}
-use Rattle.rules.specs.Table.{records, recordAt, hopsAt, pathAt, ownerAt, rankOf, hopsOf, pathOf, pathsOf, present}
+use Rattle.rules.specs.Table.{records, recordAt, hopsAt, pathAt, ownerAt, rankOf, hopsOf, pathOf, pathsOf, present, longest}
 use Rattle.rules.specs.Refusals.{refusal, hopsBad, vertexBad, unusedOf, fillerBad, twiceBad, lastBad}
 use Rattle.rules.specs.Shape.{Permitted, Shaped}
 use Rattle.rules.specs.TableLaws.{Kept, block, path-owner, record-length}
@@ -167,3 +167,13 @@ module _ (t : List ℕ) (e : refusal t ≡ none) where
         origin = always-0;
         range = present-range;
       }
+
+  -- no path has more hops than the longest
+  pub path-longest : (v k : ℕ) → k < length (pathsOf t v) → length (getD (pathsOf t v) k []) ≤ suc (longest t)
+  unfolding longest
+  path-longest v k l =
+      let b = here t e v in
+      let m = in-place v k l in
+      let i = b .start + k in
+      let under : i < records t = omega (arith, b .within) in
+      omega (arith, ap length (path-in-block t e v k m), path-length t e i under, max-bounds (hopsAt t) (records t) i under)

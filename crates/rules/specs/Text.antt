@@ -1,6 +1,6 @@
 -- The rules page, "Tables tried by hand": the text that the check program prints, letter by letter, for all inputs. What every printed
 -- text shares comes first: numbers, words, a route and a refusal.
-use Prim.Native.Nat.{ℕ, zero, suc, _+_, _*_, _/_, _%_}
+use Prim.Native.Nat.{ℕ, zero, suc, _+_, _/_, _%_}
 use Prim.Native.Char.{code}
 use Prim.Native.String.{String}
 use Prim.Native.String as string
@@ -11,7 +11,7 @@ use lib.Dec.{eqb}
 use Rattle.lists.specs.Search.{outside}
 use Rattle.lists.specs.Fill.{blocks}
 use Rattle.rules.specs.Refusals.{refusal}
-use Rattle.rules.specs.Report.{report}
+use Rattle.rules.specs.Report.{rowAt, report}
 use Rattle.rules.specs.Answers.{Verdict, complete, stuck, refused, verdictOf, verdict}
 
 -- a text's letters as bytes
@@ -88,10 +88,6 @@ rowLine v row =
       | true ↦ []
       | false ↦ decimal v ++ stageWords row ++ routeWords (getD row 1 0) (rowPath row) ++ codes "\n"
     ]
-
--- "its own 16-byte part of the rows, starting at 16 times its number"
-unfoldable pub rowAt : List ℕ → ℕ → List ℕ
-rowAt rows v = take 16 (drop (16 * v) rows)
 
 -- the line of each vertex from 1 to n
 unfoldable pub rowLines : List ℕ → ℕ → List ℕ

@@ -12,11 +12,11 @@ use Rattle.rules.specs.Table.{recordAt, records, rankOf, hopsOf, pathOf,
 use Rattle.rules.specs.Refusals.{_orElse_, hopsBad, vertexBad, unusedOf, fillerBad, twiceBad, lastBad, ownerBad, rankDue, rankBad, pathBad, inRecord, rule, recordRules, firstBroken, fault, faulty, firstBad, tooLong, ragged, refusal, refusedIf, refusedAt, badRecord}
 use Rattle.rules.specs.Greedy.{isSettled, compatible, atStart, best, judged, stage, settledList, settled, enters, quiet, stageCount, stageOf, stuckIn, follows, fromVertex, beforeVertex, closedPart, lowestOf, turned, ringFrom}
 use Rattle.rules.specs.Stable.{extends, bestGiven}
-use Rattle.rules.specs.Report.{placeIn, rankIn, rowBytes, row, report}
+use Rattle.rules.specs.Report.{placeIn, rankIn, rowBytes, row, rowAt, report}
 use Rattle.rules.specs.Machine.{offsetOf, speaks, byteFor, pathFor, badAt, badByte, heardFault, lastHeard, choice, step, standingOf, standing, movement}
 use Rattle.rules.specs.Run.{pairsIn, isUp, isDown, more, listeningOffsets, closes, begun, activated, run}
 use Rattle.rules.specs.Answers.{verdictOf, verdict, otherLength, scheduleBad, firstBadPair, runRefusal}
-use Rattle.rules.specs.Text.{codes, digitsIn, decimal, labelled, spaced, routeWords, placeWords, refusedLine, verdictLine, stageWords, rowPath, rowLine, rowAt, rowLines, ringLine, textOf, checkText}
+use Rattle.rules.specs.Text.{codes, digitsIn, decimal, labelled, spaced, routeWords, placeWords, refusedLine, verdictLine, stageWords, rowPath, rowLine, rowLines, ringLine, textOf, checkText}
 use Rattle.rules.specs.RunText.{signed, runLine, vertexLine, vertexLines, runTextOf, ranLine, runText, ranText}
 use Rattle.rules.specs.Examples.{recordBytes, blockBytes, tableBytes, table3, table7}
 

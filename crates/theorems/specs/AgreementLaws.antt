@@ -15,7 +15,7 @@ use Rattle.rules.specs.Greedy.{Settled, compatible, best, judged, settled}
 use Rattle.rules.specs.Stable.{Stable, extends, bestGiven}
 use Rattle.rules.specs.Shape.{Permitted, Shaped}
 use Rattle.rules.specs.PathLaws.{Stands, first-taken}
-use Rattle.rules.specs.GreedyLaws.{Entry, is-some, judged-next, settled-later, settled-once, settled-origin, origin-path, newly-judged, entered, entered-best}
+use Rattle.rules.specs.GreedyLaws.{Entry, is-some, stands-permitted, judged-next, settled-later, settled-once, settled-origin, origin-path, newly-judged, entered, entered-best}
 use Rattle.theorems.specs.EnteringLaws.{hop-second, rest-shorter, compatible-settled, settled-compatible, compatible-rest, rest-settled, entering}
 
 module _ (paths : ℕ → List Path) (present : ℕ → Bool) (shaped : Shaped paths present) (assigned : ℕ → Path) where
@@ -78,7 +78,7 @@ module _ (paths : ℕ → List Path) (present : ℕ → Bool) (shaped : Shaped p
   stable-chained stable =
       record {
         destination = stable .destination;
-        permitted = λ v z e f. let s = taken v z e f .0 in rw (s .there) at (shaped .permitted v (s .place) (s .under));
+        permitted = λ v z e f. stands-permitted paths present shaped v (assigned v) (taken v z e f .0);
         chained = λ v z e f. same-eq (rest (assigned v)) (assigned (nextHop (assigned v))) (taken v z e f .1);
       }
     where
@@ -140,7 +140,7 @@ module _ (paths : ℕ → List Path) (present : ℕ → Bool) (shaped : Shaped p
             first-taken (compatible (settled paths present (r .at))) (paths v) (assigned v) f (sym (entered-best paths present r))
 
         own : (v : ℕ) → v ≢ 0 → present v ≡ true → assigned v ≢ [] → Permitted present v (assigned v)
-        own v z e f = let s = taken v z e f .0 in rw (s .there) at (shaped .permitted v (s .place) (s .under))
+        own v z e f = stands-permitted paths present shaped v (assigned v) (taken v z e f .0)
 
     pub settled-stable : Stable paths present assigned
     settled-stable =

@@ -18,7 +18,7 @@ use Rattle.rules.specs.Greedy.{Settled, isSettled, compatible, best, judged}
 use Rattle.rules.specs.Stable.{extends, bestGiven}
 use Rattle.rules.specs.Shape.{Permitted, Shaped}
 use Rattle.rules.specs.PathLaws.{Stands, first-agrees}
-use Rattle.rules.specs.GreedyLaws.{is-some, judged-path, judged-next}
+use Rattle.rules.specs.GreedyLaws.{is-some, stands-permitted, judged-path, judged-next}
 
 -- a path and its parts
 
@@ -94,7 +94,7 @@ module _ (paths : ℕ → List Path) (present : ℕ → Bool) (shaped : Shaped p
         picked : (c : Path) → Stands (paths v) c → compatible S c ≡ true → judged S c ≡ some p → extends given c ≡ true
         picked c s f j =
             let k = s .place in
-            let permitted : Permitted present v c = rw (s .there) at (shaped .permitted v k (s .under)) in
+            let permitted = stands-permitted paths present shaped v c s in
             let listening : listens paths v (nextHop c) ≡ true = rw (s .there) at (next-listens v k (s .under)) in
             ⊎-elim (λ e. absurd (omega (arith, permitted .long, ap length e)))
             (λ e. let q = is-some (S (nextHop c)) e in

@@ -26,7 +26,7 @@ use Rattle.rules.specs.Run.{listeningOffsets}
 use Rattle.rules.specs.Rounds.{Covers, LastRound, Contains}
 use Rattle.rules.specs.Shape.{Permitted, Shaped}
 use Rattle.rules.specs.PathLaws.{Stands, first-taken}
-use Rattle.rules.specs.GreedyLaws.{settled-origin, origin-path, settled-once, newly-judged, entered}
+use Rattle.rules.specs.GreedyLaws.{stands-permitted, settled-origin, origin-path, settled-once, newly-judged, entered}
 use Rattle.rules.specs.MachineLaws.{offset-listens, listening, choice-destination, choice-other}
 use Rattle.rules.specs.RoundLaws.{Split, contains-last, contains-split}
 use Rattle.theorems.specs.LastingLaws.{InRange, range-parts, after, after-length, Lasting, lasting-later, heard-once}
@@ -124,7 +124,7 @@ module _ (paths : ℕ → List Path) (present : ℕ → Bool) (shaped : Shaped p
             (λ w. true≢ offered
             (rw (t .there) at (shut u k (t .under) w (rw (t .there) bad) (rw (t .there) short) s r)))
             (λ q w. true≢
-            (settled-compatible paths present shaped S u p q (rw (t .there) at (shaped .permitted u k (t .under))) w (sym e ∙ holds u q w s r)) bad)
+            (settled-compatible paths present shaped S u p q (stands-permitted paths present shaped u p t) w (sym e ∙ holds u q w s r)) bad)
 
     -- paths of one vertex are nobody's, but for the destination's own
     withdrawn-none : (heard : List ℕ) → Withdrawn 1 heard

@@ -1,0 +1,106 @@
+-- What the theorems speak of, over the bytes of a table, its rows, heard states and schedules: calls one after the other, what a row
+-- reports, and what is claimed of a settled vertex.
+use Prim.{Unit}
+use Prim.Native.Nat.{ℕ, pred, _+_, _*_, _<_, _≤_}
+use mathlib.Core.Path.{_≡_}
+use mathlib.Core.Bool.{Bool, true, false}
+use mathlib.Core.List.{List, [], _∷_, _++_}
+use mathlib.Core.Option.{Option, none}
+use lib.ListN.{length, getD, take}
+use lib.IntN.{ℤ}
+use Rattle.rules.specs.Table.{Path, pathsOf}
+use Rattle.rules.specs.Report.{rankIn, rowAt, pathShown, report}
+use Rattle.rules.specs.Machine.{Pair, heardFault, choice}
+use Rattle.rules.specs.Run.{pairsIn, run}
+use Rattle.rules.specs.Rounds.{Contains}
+use Rattle.rules.specs.Refusals.{Refusal, refusal}
+use Rattle.rules.specs.Answers.{stepRefusal, heardAfterStep, runRefusal, runNumbers, heardAfterRun}
+
+-- A call that the collector can make on a heard state: a run over a schedule, with a buffer lent for the sums, or a single step.
+pub data Call : Type 0 where
+  ofRun : (schedule : List ℕ) (sums : List ℤ) → Call
+  ofStep : Pair → Call
+
+-- its refusal, the heard state after it, the pairs that it activates, and the rounds that it answers (a step answers none)
+
+unfoldable pub callRefusal : List ℕ → List ℕ → Call → Option Refusal
+callRefusal t heard (ofRun s sums) = runRefusal t heard s sums
+callRefusal t heard (ofStep p) = stepRefusal t heard p
+
+unfoldable pub heardAfterCall : List ℕ → List ℕ → Call → List ℕ
+heardAfterCall t heard (ofRun s sums) = heardAfterRun t heard s sums
+heardAfterCall t heard (ofStep p) = heardAfterStep t heard p
+
+unfoldable pub pairsOfCall : Call → List Pair
+pairsOfCall (ofRun s sums) = pairsIn s
+pairsOfCall (ofStep p) = p ∷ []
+
+unfoldable pub roundsOfCall : List ℕ → List ℕ → Call → ℕ
+roundsOfCall t heard (ofRun s sums) = getD (runNumbers t heard s sums) 4 0
+roundsOfCall t heard (ofStep p) = 0
+
+-- calls one after the other with the same table: each is accepted in the state that it finds, ..
+unfoldable pub AllAccepted : List ℕ → List ℕ → List Call → Type 0
+AllAccepted t heard [] = Unit {0}
+AllAccepted t heard (c ∷ cs) = (callRefusal t heard c ≡ none) × AllAccepted t (heardAfterCall t heard c) cs
+
+-- .. the state after them, ..
+unfoldable pub heardAfter : List ℕ → List ℕ → List Call → List ℕ
+heardAfter t heard [] = heard
+heardAfter t heard (c ∷ cs) = heardAfter t (heardAfterCall t heard c) cs
+
+-- .. all their pairs, ..
+unfoldable pub pairsOf : List Call → List Pair
+pairsOf [] = []
+pairsOf (c ∷ cs) = pairsOfCall c ++ pairsOf cs
+
+-- .. the state after the first n of these, ..
+unfoldable pub heardAfterPairs : List ℕ → List ℕ → List Call → ℕ → List ℕ
+heardAfterPairs t heard calls n = run (pathsOf t) heard (take n (pairsOf calls)) .heard
+
+-- .. and all the rounds that they answer, each run counting from its own start
+unfoldable pub roundsAnswered : List ℕ → List ℕ → List Call → ℕ
+roundsAnswered t heard [] = 0
+roundsAnswered t heard (c ∷ cs) = roundsOfCall t heard c + roundsAnswered t (heardAfterCall t heard c) cs
+
+-- A valid heard state.
+pub record Valid (t heard : List ℕ) : Type 0 where
+  pub long : length heard ≡ 4096
+  pub fine : heardFault (pathsOf t) heard ≡ none
+
+-- the row of v in the report
+abbrev pub rowOf : List ℕ → ℕ → List ℕ
+rowOf t v = rowAt (report t .rows) v
+
+-- The row of v says stage k, "byte 0: stage; 254 absent; 255 stuck".
+pub record SettledAt (t : List ℕ) (v k : ℕ) : Type 0 where
+  pub vertex : v < 64
+  pub stage : getD (rowOf t v) 0 0 ≡ k
+  pub counted : k ≤ 63
+
+-- p is what the row of v reports, [] where it reports no path: "byte 1 rank, byte 2 hops, bytes 3 to 15 the vertices, then 255".
+pub record AsReported (t : List ℕ) (v : ℕ) (p : Path) : Type 0 where
+  pub rank : rankIn (pathsOf t) v p ≡ getD (rowOf t v) 1 0
+  pub hops : pred (length p) ≡ getD (rowOf t v) 2 0
+  pub path : p ≡ pathShown (rowOf t v)
+
+-- The choice of v is as reported, and stays so: now, after all accepted calls that may follow, and after each single step of them.
+pub record Stays (t heard : List ℕ) (v : ℕ) : Type 0 where
+  pub now : AsReported t v (choice (pathsOf t) heard v)
+  pub afterwards : (later : List Call) → AllAccepted t heard later → AsReported t v (choice (pathsOf t) (heardAfter t heard later) v)
+  pub between : (later : List Call)
+      → AllAccepted t heard later
+      → (n : ℕ)
+      → AsReported t v (choice (pathsOf t) (heardAfterPairs t heard later n) v)
+
+-- What is claimed with rounds of the pairs that `pairs t` gives, so many of them for stage k and longest path of l hops.
+abbrev pub Settling : (List ℕ → List ℕ) → (ℕ → ℕ → ℕ) → Type 0
+Settling pairs enough =
+    (t heard : List ℕ) (v k : ℕ)
+    → refusal t ≡ none
+    → SettledAt t v k
+    → Valid t heard
+    → (calls : List Call)
+    → AllAccepted t heard calls
+    → Contains (pairs t) (enough k (report t .hops)) (pairsOf calls)
+    → Stays t (heardAfter t heard calls) v

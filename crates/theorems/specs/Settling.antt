@@ -1,0 +1,84 @@
+-- Demand 3: what the check reports as settled settles, from every leftover state and under every order of updates.
+use Prim.Native.Nat.{ℕ, _*_, _≤_}
+use mathlib.Core.Path.{_≡_, sym, ap, _∙_, subst}
+use mathlib.Core.Logic.{_≢_}
+use mathlib.Core.List.{List, []}
+use mathlib.Core.Option.{none}
+use lib.ListN.{take, drop, take-append-drop}
+use Rattle.rules.specs.Table.{Path, pathsOf, present, longest}
+use Rattle.rules.specs.Greedy.{settled}
+use Rattle.rules.specs.Report.{report}
+use Rattle.rules.specs.Machine.{choice}
+use Rattle.rules.specs.Run.{listeningOffsets, run}
+use Rattle.rules.specs.Rounds.{Contains}
+use Rattle.rules.specs.Refusals.{refusal}
+use Rattle.rules.specs.ShapeLaws.{shaped, path-longest}
+use Rattle.rules.specs.GreedyLaws.{settled-origin}
+use Rattle.rules.specs.RunLaws.{run-heard}
+use Rattle.rules.specs.RoundLaws.{contains-fewer}
+use Rattle.theorems.specs.Claims.{Call, AllAccepted, heardAfter, pairsOf, heardAfterPairs, roundsAnswered, Valid, SettledAt, AsReported, Stays, Settling}
+use Rattle.theorems.specs.LastingLaws.{range-parts, after, Lasting, lasting-now}
+use Rattle.theorems.specs.StageLaws.{stages-hold}
+use Rattle.theorems.specs.RowLaws.{row-tells}
+use Rattle.theorems.specs.CallLaws.{all-range, all-after, all-rounds, all-counted}
+
+-- what v chooses for good is as reported for good
+lasting-stays : (t : List ℕ)
+    → refusal t ≡ none
+    → (v : ℕ) (p : Path)
+    → AsReported t v p
+    → (heard : List ℕ)
+    → Lasting (pathsOf t) (λ h. choice (pathsOf t) h v ≡ p) heard
+    → Stays t heard v
+unfolding heardAfterPairs
+lasting-stays t accepted v p reported heard lasts =
+    let paths = pathsOf t in
+    record {
+      now = subst (AsReported t v) (sym (lasting-now paths (λ h. choice paths h v ≡ p) heard lasts)) reported;
+      afterwards = λ later a. rw (all-after t accepted later heard a)
+          (subst (AsReported t v) (sym (lasts (pairsOf later) (all-range t accepted later heard a))) reported);
+      between = λ later a n. let s = pairsOf later in
+          let whole = all-range t accepted later heard a in
+          let part = range-parts (take n s) (drop n s) (rw (take-append-drop n s) whole) .0 in
+          rw (run-heard paths heard (take n s)) (subst (AsReported t v) (sym (lasts (take n s) part)) reported);
+    }
+
+-- For every accepted table, every router whose row says stage k, every valid heard state and all accepted calls that together contain
+-- k times L rounds: the router's choice is what its row reports, and stays so through every later step of every accepted call.
+pub settling : Settling (λ t. listeningOffsets (pathsOf t)) (λ k hops. k * hops)
+unfolding report
+settling t heard v k accepted row valid calls a rounds =
+    let paths = pathsOf t in
+    let told = row-tells t accepted v k row in
+    let lasts = stages-hold paths (present t) (shaped t accepted) (longest t) (path-longest t accepted) k heard (pairsOf calls) (valid .long)
+    (all-range t accepted calls heard a) rounds v (told .0) (told .1 .0) in
+    rw (all-after t accepted calls heard a)
+    (lasting-stays t accepted v (told .0) (told .1 .1) (after paths heard (pairsOf calls)) lasts)
+
+-- The rounds that the runs answer, each counting from its own start, are rounds of the whole, and never more than one run over the whole
+-- would count: their sum is a lower bound.
+pub answered-contained : (t heard : List ℕ) (calls : List Call)
+    → refusal t ≡ none
+    → AllAccepted t heard calls
+    → Contains (listeningOffsets (pathsOf t)) (roundsAnswered t heard calls) (pairsOf calls)
+answered-contained t heard calls accepted a = all-rounds t accepted calls heard a
+
+pub answered-most : (t heard : List ℕ) (calls : List Call)
+    → refusal t ≡ none
+    → AllAccepted t heard calls
+    → roundsAnswered t heard calls ≤ run (pathsOf t) heard (pairsOf calls) .rounds
+answered-most t heard calls accepted a = all-counted t accepted calls heard a
+
+-- So where the rounds that the runs answer reach k times L, the same holds.
+pub settling-answered : (t heard : List ℕ) (v k : ℕ)
+    → refusal t ≡ none
+    → SettledAt t v k
+    → Valid t heard
+    → (calls : List Call)
+    → AllAccepted t heard calls
+    → k * report t .hops ≤ roundsAnswered t heard calls
+    → Stays t (heardAfter t heard calls) v
+settling-answered t heard v k accepted row valid calls a enough =
+    settling t heard v k accepted row valid calls a
+    (contains-fewer (listeningOffsets (pathsOf t)) (k * report t .hops) (roundsAnswered t heard calls) (pairsOf calls) enough
+    (answered-contained t heard calls accepted a))
