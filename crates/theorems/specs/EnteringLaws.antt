@@ -38,6 +38,13 @@ unfolding rest
 rest-shorter [] h = absurd (omega arith)
 rest-shorter (x ∷ p) h = refl
 
+-- a vertex listens to the next hop of each of its paths
+pub next-listens : (paths : ℕ → List Path) (v k : ℕ) → k < length (paths v) → listens paths v (nextHop (getD (paths v) k [])) ≡ true
+unfolding listens
+next-listens paths v k h =
+    let w = nextHop (getD (paths v) k []) in
+    any-at (λ p. eqb (nextHop p) w) (paths v) [] k h (eq-eqb w w refl)
+
 module _ (S : Settled) where
   -- compatible, by whether the first vertex is settled
   pub compatible-waiting : (v : ℕ) (p : Path) → S v ≡ none → compatible S (v ∷ p) ≡ compatible S p
@@ -72,13 +79,6 @@ module _ (paths : ℕ → List Path) (present : ℕ → Bool) (shaped : Shaped p
       w ∙ same-eq (nextHop p ∷ rest (rest p)) q
       (sym (compatible-settled S (nextHop p) (rest (rest p)) q s) ∙ ap (compatible S) (sym w) ∙ sym (compatible-rest v p r e) ∙ c)
 
-  -- v listens to the next hop of each of its paths
-  pub next-listens : (v k : ℕ) → k < length (paths v) → listens paths v (nextHop (getD (paths v) k [])) ≡ true
-  unfolding listens
-  next-listens v k h =
-      let w = nextHop (getD (paths v) k []) in
-      any-at (λ p. eqb (nextHop p) w) (paths v) [] k h (eq-eqb w w refl)
-
   -- v waits, and would be judged to settle with p
   module _ (v : ℕ) (p : Path) (waits : S v ≡ none) (enters : judged S (best paths S v) ≡ some p) where
     -- then p is what v takes, where no incompatible path is on offer and every settled next hop offers its settled path
@@ -95,7 +95,7 @@ module _ (paths : ℕ → List Path) (present : ℕ → Bool) (shaped : Shaped p
         picked c s f j =
             let k = s .place in
             let permitted = stands-permitted paths present shaped v c s in
-            let listening : listens paths v (nextHop c) ≡ true = rw (s .there) at (next-listens v k (s .under)) in
+            let listening : listens paths v (nextHop c) ≡ true = rw (s .there) at (next-listens paths v k (s .under)) in
             ⊎-elim (λ e. absurd (omega (arith, permitted .long, ap length e)))
             (λ e. let q = is-some (S (nextHop c)) e in
             ap (λ (x : Path). same x (given (nextHop c))) (rest-settled v c (q .0) permitted waits f (q .1))

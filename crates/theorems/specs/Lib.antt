@@ -1,5 +1,7 @@
 pub mod Claims
 pub mod Settling
+pub mod StableAssignments
+pub mod RestingPoints
 pub mod LastingLaws
 pub mod EnteringLaws
 pub mod StageLaws

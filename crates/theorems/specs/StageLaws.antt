@@ -145,7 +145,7 @@ module _ (paths : ℕ → List Path) (present : ℕ → Bool) (shaped : Shaped p
         let shorter = rest-shorter p (omega (arith, permitted .long)) in
         let never = avoids (nextHop p) (rest p) (λ e. omega (arith, permitted .long, shorter, ap length e)) (omega (arith, shorter))
         (sym (compatible-rest paths present shaped S v p permitted w) ∙ c) in
-        let unheard = heard-round (λ q. q ≢ rest p) v (nextHop p) heard stretch m r covers (next-listens paths present shaped S v k h) never in
+        let unheard = heard-round (λ q. q ≢ rest p) v (nextHop p) heard stretch m r covers (next-listens paths v k h) never in
         λ s q. differ (rest p) (lastHeard paths (after paths (after paths heard stretch) s) v (nextHop p)) (λ e. unheard s q (sym e))
 
     -- n rounds withdraw the paths of n hops
