@@ -169,6 +169,11 @@ right-length : {A : Type 0} (n : ℕ) (l : List A) → otherLength n l ≡ false
 unfolding otherLength
 right-length n l e = let r = inside n n (length l) e in omega arith
 
+-- an accepted check says that the table is accepted
+pub check-admitted : (table rows ring : List ℕ) → checkRefusal table rows ring ≡ none → refusal table ≡ none
+unfolding checkRefusal
+check-admitted table rows ring e = both-none (refusedIf (otherLength 1024 rows || otherLength 64 ring) 1) (refusal table) e .1
+
 -- the checks that the step and the run have in common
 common-none : (wrong : Bool) (table : Option Refusal) (fault : Option ℕ) (rest : Option Refusal)
     → checks wrong table fault rest ≡ none
