@@ -8,3 +8,4 @@ pub mod StageLaws
 pub mod AgreementLaws
 pub mod RowLaws
 pub mod CallLaws
+pub mod SettlingExamples
