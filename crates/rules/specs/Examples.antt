@@ -2,7 +2,7 @@
 -- blocks, as one list and one statement about the definitions.
 use Prim.Native.Nat.{ℕ, suc, pred}
 use mathlib.Core.Path.{_≡_, refl}
-use mathlib.Core.Bool.{true, false, not, _&&_}
+use mathlib.Core.Bool.{not, _&&_}
 use mathlib.Core.List.{List, [], _∷_, _++_, map}
 use mathlib.Core.Option.{none, some}
 use lib.ListN.{length, take, drop, replicate}

@@ -1,22 +1,22 @@
 -- Assignments in which every path is its owner followed by the next hop's path: the stable ones agree with what is settled, and what is
 -- settled, where nobody is stuck, is a stable one.
 use Prim.Native.Nat.{ℕ, zero, suc, _+_, _-_, _<_, _≤_}
-use mathlib.Core.Path.{_≡_, refl, sym, ap, _∙_}
+use mathlib.Core.Path.{_≡_, sym, ap, _∙_}
 use mathlib.Core.Logic.{_≢_, ⊎-elim}
-use mathlib.Core.Bool.{Bool, true, false}
+use mathlib.Core.Bool.{Bool, true}
 use mathlib.Core.List.{List, [], _∷_}
 use mathlib.Core.Option.{none, some}
 use native.Mathlib.Omega.{arith}
 use lib.ListN.{length, getD}
 use Rattle.lists.specs.Tests.{true≢, by-equal, by-option, none≢some}
 use Rattle.lists.specs.ListLaws.{same-refl, same-eq, differ}
-use Rattle.rules.specs.Table.{Path, nextHop, rest, listens}
+use Rattle.rules.specs.Table.{Path, nextHop, rest}
 use Rattle.rules.specs.Greedy.{Settled, compatible, best, judged, settled}
 use Rattle.rules.specs.Stable.{Stable, extends, bestGiven}
 use Rattle.rules.specs.Shape.{Permitted, Shaped}
 use Rattle.rules.specs.PathLaws.{Stands, first-taken}
 use Rattle.rules.specs.GreedyLaws.{Entry, is-some, stands-permitted, judged-next, settled-later, settled-once, settled-origin, origin-path, newly-judged, entered, entered-best}
-use Rattle.theorems.specs.EnteringLaws.{hop-second, rest-shorter, compatible-settled, settled-compatible, compatible-rest, rest-settled, entering}
+use Rattle.theorems.specs.EnteringLaws.{rest-shorter, compatible-settled, settled-compatible, compatible-rest, rest-settled, entering}
 
 module _ (paths : ℕ → List Path) (present : ℕ → Bool) (shaped : Shaped paths present) (assigned : ℕ → Path) where
   -- Each path that is assigned is permitted, and is its owner followed by what is assigned to its next hop.

@@ -1,21 +1,20 @@
 -- Laws of accepted calls one after the other: they activate their pairs, keep the heard state valid, and answer rounds that are there.
 use Prim.{tt}
-use Prim.Native.Nat.{ℕ, suc, _+_, _<_, _≤_}
+use Prim.Native.Nat.{ℕ, suc, _<_, _≤_}
 use mathlib.Core.Path.{_≡_, refl, sym, ap, _∙_}
 use mathlib.Core.Bool.{true}
-use mathlib.Core.List.{List, [], _∷_, _++_}
+use mathlib.Core.List.{List, [], _∷_}
 use mathlib.Core.Option.{none}
 use native.Mathlib.Omega.{arith}
-use lib.ListN.{length, getD, take, drop}
+use lib.ListN.{length, getD}
 use Rattle.lists.specs.Fold.{foldLeft}
 use Rattle.lists.specs.FoldLaws.{fold-append}
 use Rattle.rules.specs.Table.{Path, pathsOf, present, listens}
-use Rattle.rules.specs.Machine.{Pair, heardFault, step}
+use Rattle.rules.specs.Machine.{Pair, step}
 use Rattle.rules.specs.Run.{run, pairsIn, listeningOffsets}
 use Rattle.rules.specs.Rounds.{Contains}
 use Rattle.rules.specs.Refusals.{refusal}
-use Rattle.rules.specs.Answers.{unless, firstBadPair, stepRefusal, heardAfterStep, runRefusal, runNumbers, heardAfterRun}
-use Rattle.rules.specs.Shape.{Shaped}
+use Rattle.rules.specs.Answers.{unless, firstBadPair, heardAfterStep, runNumbers, heardAfterRun}
 use Rattle.rules.specs.ShapeLaws.{shaped}
 use Rattle.rules.specs.MachineLaws.{listening}
 use Rattle.rules.specs.RunLaws.{all-listen, run-heard, run-length, run-valid}

@@ -1,9 +1,8 @@
 -- What the theorems speak of, over the bytes of a table, its rows, heard states and schedules: calls one after the other, what a row
 -- reports, and what is claimed of a settled vertex.
 use Prim.{Unit}
-use Prim.Native.Nat.{ℕ, pred, _+_, _*_, _<_, _≤_}
+use Prim.Native.Nat.{ℕ, pred, _+_, _<_, _≤_}
 use mathlib.Core.Path.{_≡_}
-use mathlib.Core.Bool.{Bool, true, false}
 use mathlib.Core.List.{List, [], _∷_, _++_}
 use mathlib.Core.Option.{Option, none}
 use lib.ListN.{length, getD, take}

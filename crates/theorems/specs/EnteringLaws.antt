@@ -2,7 +2,7 @@
 -- law behind the machine's choices and the stable assignments.
 use Prim.Native.Nat.{ℕ, suc, _<_, _≤_}
 use mathlib.Core.Path.{_≡_, refl, sym, ap, _∙_}
-use mathlib.Core.Logic.{_≢_, ⊎-elim}
+use mathlib.Core.Logic.{⊎-elim}
 use mathlib.Core.Bool.{Bool, true, false}
 use mathlib.Core.List.{List, [], _∷_}
 use mathlib.Core.Option.{none, some}
@@ -11,10 +11,9 @@ use lib.ListN.{length, getD}
 use lib.Dec.{eqb}
 use borrow.Author.Tests.{eq-eqb}
 use Rattle.lists.specs.Search.{same}
-use Rattle.lists.specs.Tests.{true≢, by-option}
-use Rattle.lists.specs.ListLaws.{any-at, same-refl, same-eq, differ}
-use Rattle.rules.specs.Table.{Path, nextHop, rest, first, listens}
-use Rattle.rules.specs.Greedy.{Settled, isSettled, compatible, best, judged}
+use Rattle.lists.specs.ListLaws.{any-at, same-refl, same-eq}
+use Rattle.rules.specs.Table.{Path, nextHop, rest, listens}
+use Rattle.rules.specs.Greedy.{Settled, compatible, best, judged}
 use Rattle.rules.specs.Stable.{extends, bestGiven}
 use Rattle.rules.specs.Shape.{Permitted, Shaped}
 use Rattle.rules.specs.PathLaws.{Stands, first-agrees}

@@ -1,11 +1,11 @@
 -- What holds from a heard state on, whatever is activated: a choice that lasts is heard for good at every pair that is activated once.
 use Prim.{Unit, tt}
 use Prim.Native.Nat.{ℕ, _+_, _*_, _<_}
-use mathlib.Core.Path.{_≡_, refl, sym, ap, _∙_, subst}
-use mathlib.Core.Bool.{true, false, _||_}
+use mathlib.Core.Path.{_≡_, sym, _∙_, subst}
+use mathlib.Core.Bool.{true}
 use mathlib.Core.List.{List, [], _∷_, _++_, map}
 use native.Mathlib.Omega.{arith}
-use lib.ListN.{length}
+use lib.ListN.{length, getD}
 use lib.Dec.{eqb}
 use borrow.Author.Tests.{eqb-true}
 use Rattle.lists.specs.Search.{elem}
@@ -15,8 +15,8 @@ use Rattle.lists.specs.NumberLaws.{told-apart}
 use Rattle.lists.specs.Fold.{foldLeft}
 use Rattle.lists.specs.FoldLaws.{fold-append, fold-keeps}
 use Rattle.rules.specs.Table.{Path}
-use Rattle.rules.specs.Machine.{Pair, offsetOf, lastHeard, choice, step}
-use Rattle.rules.specs.MachineLaws.{step-length, heard-new, heard-kept}
+use Rattle.rules.specs.Machine.{Pair, offsetOf, byteFor, choice, step}
+use Rattle.rules.specs.MachineLaws.{step-length, step-here, step-there}
 
 -- A pair of vertices.
 pub record Vertices (p : Pair) : Type 0 where
@@ -70,35 +70,34 @@ module _ (paths : ℕ → List Path) where
     unfolding foldLeft
     lasting-step p r = lasting-later (p ∷ []) (range-one p r)
 
-  -- v listens to u, and C is what is said of paths
-  module _ (v u : ℕ) (small : u < 64) (C : Path → Type 0) where
+  -- v listens to u, and C is what is said of the byte that u's choice is stored as
+  module _ (v u : ℕ) (listener : v < 64) (speaker : u < 64) (C : ℕ → Type 0) where
     abbrev Chosen : List ℕ → Type 0
-    Chosen heard = C (choice paths heard u)
+    Chosen heard = C (byteFor paths u (choice paths heard u))
 
     abbrev Heard : List ℕ → Type 0
-    Heard heard = C (lastHeard paths heard v u)
+    Heard heard = C (getD heard (64 * v + u) 0)
 
     -- a step at the pair stores u's choice
     heard-here : (heard : List ℕ) (p : Pair)
-        → Vertices p
         → length heard ≡ 4096
         → v ≡ p .listener
         → u ≡ p .speaker
         → Chosen heard
         → Heard (step paths heard p)
-    heard-here heard p r n a b c =
-        let new : lastHeard paths (step paths heard p) v u ≡ choice paths heard u =
-        rw (a, b) (heard-new paths heard p n (r .listener) (r .speaker)) in
+    unfolding offsetOf
+    heard-here heard p n a b c =
+        let new : getD (step paths heard p) (64 * v + u) 0 ≡ byteFor paths u (choice paths heard u) =
+        rw (a, b) (step-here paths heard p (omega arith)) in
         subst C (sym new) c
 
     -- a step leaves what v heard from u, or renews it by u's choice
     heard-on : (heard : List ℕ) (p : Pair) → Vertices p → length heard ≡ 4096 → Chosen heard → Heard heard → Heard (step paths heard p)
+    unfolding offsetOf
     heard-on heard p r n c h =
-        by-equal v (p .listener)
-        (λ a. by-equal u (p .speaker)
-        (λ b. heard-here heard p r n a b c)
-        (λ b. subst C (sym (heard-kept paths heard p (r .speaker) v u (λ x y. b y))) h))
-        (λ a. subst C (sym (heard-kept paths heard p (r .speaker) v u (λ x y. a x))) h)
+        by-equal (64 * v + u) (offsetOf p)
+        (λ e. let told = told-apart v u (p .listener) (p .speaker) speaker (r .speaker) e in heard-here heard p n (told .0) (told .1) c)
+        (λ e. subst C (sym (step-there paths heard p (64 * v + u) e)) h)
 
     -- so what was once heard so is heard so for good, where the choice lasts
     heard-lasts : (s : List Pair) (heard : List ℕ)
@@ -123,11 +122,10 @@ module _ (paths : ℕ → List Path) where
     unfolding foldLeft InRange offsetOf
     heard-once [] heard r n l e = absurd (true≢ e (elem-nil (64 * v + u)))
     heard-once (p ∷ s) heard r n l e =
-        by-test (eqb (64 * v + u) (offsetOf p))
-        (λ q. let told = told-apart v u (p .listener) (p .speaker) small (r .0 .speaker) (eqb-true (64 * v + u) (offsetOf p) q) in
         let next = lasting-step Chosen heard l p (r .0) in
         let long = step-length paths heard p ∙ n in
-        let heardIt = heard-here heard p (r .0) n (told .0) (told .1) (lasting-now Chosen heard l) in
-        lasting-later Heard (step paths heard p) (λ t q. heard-lasts t (step paths heard p) q long next heardIt) s (r .1))
-        (λ q. heard-once s (step paths heard p) (r .1) (step-length paths heard p ∙ n) (lasting-step Chosen heard l p (r .0))
-        (rw q at (sym (elem-cons (64 * v + u) (offsetOf p) (map offsetOf s)) ∙ e)))
+        by-test (eqb (64 * v + u) (offsetOf p))
+        (λ q. let told = told-apart v u (p .listener) (p .speaker) speaker (r .0 .speaker) (eqb-true (64 * v + u) (offsetOf p) q) in
+        let here = heard-here heard p n (told .0) (told .1) (lasting-now Chosen heard l) in
+        lasting-later Heard (step paths heard p) (λ t i. heard-lasts t (step paths heard p) i long next here) s (r .1))
+        (λ q. heard-once s (step paths heard p) (r .1) long next (rw q at (sym (elem-cons (64 * v + u) (offsetOf p) (map offsetOf s)) ∙ e)))

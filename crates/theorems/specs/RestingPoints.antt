@@ -1,12 +1,12 @@
 -- Where the machine rests: the heard states that no step changes are exactly those that store a stable assignment.
-use Prim.Native.Nat.{ℕ, _+_, _*_, _/_, _%_, _<_}
-use mathlib.Core.Path.{_≡_, refl, sym, ap, _∙_, subst}
-use mathlib.Core.Logic.{_≢_, _⊎_, inl, inr}
-use mathlib.Core.Bool.{Bool, true, false}
+use Prim.Native.Nat.{ℕ, _+_, _*_, _/_, _%_}
+use mathlib.Core.Path.{_≡_, refl, sym, ap, _∙_}
+use mathlib.Core.Logic.{_≢_, _⊎_, inr}
+use mathlib.Core.Bool.{true, false}
 use mathlib.Core.List.{List, [], _∷_}
-use mathlib.Core.Option.{none, some}
+use mathlib.Core.Option.{none}
 use native.Mathlib.Omega.{arith}
-use lib.ListN.{length, getD, set}
+use lib.ListN.{getD}
 use lib.Seq.{set-getD}
 use lib.Dec.{eqb}
 use borrow.Author.Tests.{eqb-true}
@@ -17,10 +17,9 @@ use Rattle.lists.specs.FillLaws.{tabulate-length, tabulate-at, is-tabulate}
 use Rattle.lists.specs.Tests.{by-test, by-equal, by-option, true≢}
 use Rattle.rules.specs.Table.{Path, nextHop, pathsOf, present, listens, listensAt}
 use Rattle.rules.specs.Stable.{Stable, extends, bestGiven}
-use Rattle.rules.specs.Machine.{Pair, offsetOf, speaks, byteFor, pathFor, badByte, heardFault, lastHeard, choice, step}
+use Rattle.rules.specs.Machine.{Pair, offsetOf, speaks, byteFor, pathFor, lastHeard, choice, step}
 use Rattle.rules.specs.Refusals.{refusal}
 use Rattle.rules.specs.Answers.{unless, stepRefusal, heardAfterStep}
-use Rattle.rules.specs.Shape.{Shaped}
 use Rattle.rules.specs.ShapeLaws.{shaped}
 use Rattle.rules.specs.PathLaws.{Stands, first-among, place-most}
 use Rattle.rules.specs.RunLaws.{all-listen}

@@ -1,24 +1,24 @@
 -- Demand 3: what the check reports as settled settles, from every leftover state and under every order of updates.
-use Prim.Native.Nat.{ℕ, _*_, _≤_}
+use Prim.Native.Nat.{ℕ, suc, _+_, _*_, _≤_}
 use mathlib.Core.Path.{_≡_, sym, ap, _∙_, subst}
 use mathlib.Core.Logic.{_≢_}
-use mathlib.Core.List.{List, []}
+use mathlib.Core.Bool.{true}
+use mathlib.Core.List.{List}
 use mathlib.Core.Option.{none}
-use lib.ListN.{take, drop, take-append-drop}
-use Rattle.rules.specs.Table.{Path, pathsOf, present, longest}
-use Rattle.rules.specs.Greedy.{settled}
-use Rattle.rules.specs.Report.{report}
-use Rattle.rules.specs.Machine.{choice}
+use lib.ListN.{getD, take, drop, take-append-drop}
+use Rattle.rules.specs.Table.{Path, pathsOf, present, longest, listens}
+use Rattle.rules.specs.Report.{placeIn, rankIn, report}
+use Rattle.rules.specs.Machine.{byteFor, choice}
 use Rattle.rules.specs.Run.{listeningOffsets, run}
 use Rattle.rules.specs.Rounds.{Contains}
 use Rattle.rules.specs.Refusals.{refusal}
 use Rattle.rules.specs.ShapeLaws.{shaped, path-longest}
-use Rattle.rules.specs.GreedyLaws.{settled-origin}
+use Rattle.rules.specs.MachineLaws.{speaks-other}
 use Rattle.rules.specs.RunLaws.{run-heard}
 use Rattle.rules.specs.RoundLaws.{contains-fewer}
-use Rattle.theorems.specs.Claims.{Call, AllAccepted, heardAfter, pairsOf, heardAfterPairs, roundsAnswered, Valid, SettledAt, AsReported, Stays, Settling}
+use Rattle.theorems.specs.Claims.{Call, AllAccepted, heardAfter, pairsOf, heardAfterPairs, roundsAnswered, Valid, rowOf, SettledAt, AsReported, Stays, Settling}
 use Rattle.theorems.specs.LastingLaws.{range-parts, after, Lasting, lasting-now}
-use Rattle.theorems.specs.StageLaws.{stages-hold}
+use Rattle.theorems.specs.StageLaws.{stages-hold, stages-heard}
 use Rattle.theorems.specs.RowLaws.{row-tells}
 use Rattle.theorems.specs.CallLaws.{all-range, all-after, all-rounds, all-counted}
 
@@ -54,6 +54,31 @@ settling t heard v k accepted row valid calls a rounds =
     (all-range t accepted calls heard a) rounds v (told .0) (told .1 .0) in
     rw (all-after t accepted calls heard a)
     (lasting-stays t accepted v (told .0) (told .1 .1) (after paths heard (pairsOf calls)) lasts)
+
+-- After one round more, every router that listens to it holds the rank of that row, and 0 where it reports no path, for good.
+pub settling-heard : (t heard : List ℕ) (v k : ℕ)
+    → refusal t ≡ none
+    → SettledAt t v k
+    → Valid t heard
+    → (calls : List Call)
+    → AllAccepted t heard calls
+    → Contains (listeningOffsets (pathsOf t)) (suc (k * report t .hops)) (pairsOf calls)
+    → v ≢ 0
+    → (w : ℕ)
+    → listens (pathsOf t) w v ≡ true
+    → (later : List Call)
+    → AllAccepted t (heardAfter t heard calls) later
+    → getD (heardAfter t (heardAfter t heard calls) later) (64 * w + v) 0 ≡ getD (rowOf t v) 1 0
+unfolding report byteFor rankIn
+settling-heard t heard v k accepted row valid calls a rounds z w l later b =
+    let paths = pathsOf t in
+    let told = row-tells t accepted v k row in
+    let lasts = stages-heard paths (present t) (shaped t accepted) (longest t) (path-longest t accepted) k heard (pairsOf calls) (valid .long)
+    (all-range t accepted calls heard a) rounds v (told .0) (told .1 .0) w l in
+    let whole = all-after t accepted later (heardAfter t heard calls) b
+    ∙ ap (λ (h : List ℕ). after paths h (pairsOf later)) (all-after t accepted calls heard a) in
+    ap (λ (h : List ℕ). getD h (64 * w + v) 0) whole ∙ lasts (pairsOf later) (all-range t accepted later (heardAfter t heard calls) b)
+    ∙ ap (placeIn (told .0)) (speaks-other paths v z) ∙ told .1 .1 .rank
 
 -- The rounds that the runs answer, each counting from its own start, are rounds of the whole, and never more than one run over the whole
 -- would count: their sum is a lower bound.

@@ -3,12 +3,11 @@
 use Prim.{tt}
 use Prim.Native.Nat.{ℕ, zero, suc, _+_, _-_, _*_, _≤_}
 use mathlib.Core.Path.{_≡_, refl, sym, ap, _∙_, subst}
-use mathlib.Core.Bool.{Bool, true, false, not, _&&_}
-use mathlib.Core.List.{List, [], _∷_, _++_, map}
+use mathlib.Core.List.{List, [], _∷_, _++_}
 use mathlib.Core.Option.{none}
 use native.Mathlib.Omega.{arith}
-use lib.ListN.{length, getD, set, replicate, drop}
-use lib.IntN.{ℤ, pos}
+use lib.ListN.{length, set, replicate, drop}
+use lib.IntN.{pos}
 use Rattle.lists.specs.Search.{outside, firstFrom, anyBelow, countBelow, thoseBelow, anyIn, firstIn, elem, same, maxBelow, twice}
 use Rattle.lists.specs.Tests.{true≢}
 use Rattle.lists.specs.ListLaws.{elem-nil}
@@ -19,7 +18,7 @@ use Rattle.rules.specs.Refusals.{_orElse_, hopsBad, vertexBad, unusedOf, filler
 use Rattle.rules.specs.Greedy.{isSettled, compatible, atStart, best, judged, stage, settledList, settled, enters, quiet, stageCount, stageOf, stuckIn, follows, fromVertex, beforeVertex, closedPart, lowestOf, turned, ringFrom}
 use Rattle.rules.specs.Stable.{extends, bestGiven}
 use Rattle.rules.specs.Report.{placeIn, rankIn, rowBytes, row, rowAt, vertices, pathShown, report}
-use Rattle.rules.specs.Machine.{Pair, offsetOf, speaks, byteFor, pathFor, badAt, badByte, heardFault, lastHeard, choice, step, standingOf, standing, movement}
+use Rattle.rules.specs.Machine.{offsetOf, speaks, byteFor, pathFor, badAt, badByte, heardFault, lastHeard, choice, step, standingOf, standing, movement}
 use Rattle.rules.specs.Run.{pairsIn, isUp, isDown, more, listeningOffsets, closes, begun, activated, run}
 use Rattle.rules.specs.Rounds.{Contains}
 use Rattle.rules.specs.Answers.{otherLength, scheduleBad, firstBadPair, stepRefusal, runRefusal, runNumbers, heardAfterStep, heardAfterRun, unless}

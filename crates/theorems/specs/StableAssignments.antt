@@ -2,13 +2,13 @@
 use Prim.Native.Nat.{ℕ, zero, suc}
 use mathlib.Core.Path.{_≡_, refl, sym, _∙_, subst}
 use mathlib.Core.Logic.{_≢_}
-use mathlib.Core.Bool.{true, not, _&&_}
-use mathlib.Core.List.{List, []}
+use mathlib.Core.Bool.{true}
+use mathlib.Core.List.{List}
 use mathlib.Core.Option.{none, some}
 use native.Mathlib.Omega.{arith}
-use Rattle.lists.specs.Tests.{by-option, both}
+use Rattle.lists.specs.Tests.{by-option}
 use Rattle.rules.specs.Table.{Path, pathsOf, present}
-use Rattle.rules.specs.Greedy.{isSettled, settled, stageCount, stuckIn}
+use Rattle.rules.specs.Greedy.{isSettled, stageCount, stuckIn}
 use Rattle.rules.specs.Stable.{Stable}
 use Rattle.rules.specs.Report.{pathShown, report}
 use Rattle.rules.specs.Refusals.{refusal}

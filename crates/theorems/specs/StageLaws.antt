@@ -2,7 +2,7 @@
 -- from every heard state. L is any number of hops that no path exceeds.
 use Prim.Native.Nat.{ℕ, zero, suc, _+_, _*_, _<_, _≤_}
 use mathlib.Core.Path.{_≡_, refl, sym, ap, _∙_, subst}
-use mathlib.Core.Logic.{_≢_, _⊎_, inl, inr, ⊎-elim}
+use mathlib.Core.Logic.{_≢_}
 use mathlib.Core.Bool.{Bool, true, false, _&&_}
 use mathlib.Core.List.{List, [], _∷_, _++_, map}
 use mathlib.Core.Option.{none, some}
@@ -12,23 +12,22 @@ use lib.ListN.{length, getD}
 use lib.Dec.{eqb}
 use borrow.Author.Tests.{eq-eqb}
 use Rattle.lists.specs.Search.{elem, same}
-use Rattle.lists.specs.Tests.{true≢, by-test, by-equal, by-option, none≢some, both}
+use Rattle.lists.specs.Tests.{true≢, by-equal, by-option, none≢some, both}
 use Rattle.lists.specs.SearchLaws.{any-below}
 use Rattle.lists.specs.ListLaws.{same-refl, differ, some-at}
 use Rattle.lists.specs.RangeLaws.{any-those}
-use Rattle.lists.specs.Fold.{foldLeft}
 use Rattle.lists.specs.FoldLaws.{fold-append}
 use Rattle.rules.specs.Table.{Path, nextHop, rest, first, listens, listensAt}
-use Rattle.rules.specs.Greedy.{Settled, compatible, best, judged, atStart, settled, stage}
+use Rattle.rules.specs.Greedy.{Settled, compatible, best, judged, settled}
 use Rattle.rules.specs.Stable.{extends, bestGiven}
-use Rattle.rules.specs.Machine.{Pair, offsetOf, lastHeard, choice, step}
+use Rattle.rules.specs.Machine.{Pair, offsetOf, byteFor, pathFor, lastHeard, choice, step}
 use Rattle.rules.specs.Run.{listeningOffsets}
 use Rattle.rules.specs.Rounds.{Covers, LastRound, Contains}
-use Rattle.rules.specs.Shape.{Permitted, Shaped}
+use Rattle.rules.specs.Shape.{Shaped}
 use Rattle.rules.specs.PathLaws.{Stands, first-taken}
 use Rattle.rules.specs.GreedyLaws.{stands-permitted, settled-origin, origin-path, settled-once, newly-judged, entered}
-use Rattle.rules.specs.MachineLaws.{offset-listens, listening, choice-destination, choice-other}
-use Rattle.rules.specs.RoundLaws.{Split, contains-last, contains-split}
+use Rattle.rules.specs.MachineLaws.{offset-listens, listening, byte-tells, heard-in, choice-destination, choice-other, choice-spoken}
+use Rattle.rules.specs.RoundLaws.{contains-last, contains-split}
 use Rattle.theorems.specs.LastingLaws.{InRange, range-parts, after, after-length, Lasting, lasting-later, heard-once}
 use Rattle.theorems.specs.EnteringLaws.{hop-second, rest-shorter, compatible-settled, settled-compatible, compatible-rest, next-listens, entering}
 
@@ -48,7 +47,19 @@ module _ (paths : ℕ → List Path) (present : ℕ → Bool) (shaped : Shaped p
       ∙ any-below (λ k. listensAt paths k && eqb (64 * v + u) k) 4096 (64 * v + u) (omega (arith, r .listenerSmall, r .speakerSmall))
       (both (listensAt paths (64 * v + u)) (eqb (64 * v + u) (64 * v + u)) here (eq-eqb (64 * v + u) (64 * v + u) refl)))
 
-  -- after a round, v has heard for good what u chooses for good
+  -- after a round, v's byte from u is for good what is said for good of u's choice, as a byte ..
+  byte-round : (C : ℕ → Type 0) (v u : ℕ) (heard : List ℕ) (stretch : List Pair)
+      → length heard ≡ 4096
+      → InRange stretch
+      → Covers pairs stretch
+      → listens paths v u ≡ true
+      → Lasting paths (λ h. C (byteFor paths u (choice paths h u))) heard
+      → Lasting paths (λ h. C (getD h (64 * v + u) 0)) (after paths heard stretch)
+  byte-round C v u heard stretch n r covers l lasts =
+      let x = listening paths present shaped v u l in
+      heard-once paths v u (x .listenerSmall) (x .speakerSmall) C stretch heard r n lasts (round-activates v u l stretch covers)
+
+  -- .. and what v heard from u, as a path
   heard-round : (C : Path → Type 0) (v u : ℕ) (heard : List ℕ) (stretch : List Pair)
       → length heard ≡ 4096
       → InRange stretch
@@ -57,8 +68,10 @@ module _ (paths : ℕ → List Path) (present : ℕ → Bool) (shaped : Shaped p
       → Lasting paths (λ h. C (choice paths h u)) heard
       → Lasting paths (λ h. C (lastHeard paths h v u)) (after paths heard stretch)
   heard-round C v u heard stretch n r covers l lasts =
-      heard-once paths v u (listening paths present shaped v u l .speakerSmall) C stretch heard r n lasts
-      (round-activates v u l stretch covers)
+      let small = listening paths present shaped v u l .speakerSmall in
+      let bytes = byte-round (λ b. C (pathFor paths u b)) v u heard stretch n r covers l
+      (λ s q. let h = after paths heard s in subst C (sym (byte-tells paths u (choice paths h u) (choice-spoken paths h u))) (lasts s q)) in
+      λ s q. subst C (sym (heard-in paths (after paths (after paths heard stretch) s) v u small)) (bytes s q)
 
   -- a schedule by its last round
 
@@ -252,3 +265,21 @@ module _ (paths : ℕ → List Path) (present : ℕ → Bool) (shaped : Shaped p
             → Lasting paths (λ h. choice paths h u ≡ q) (after paths heard s)
         new k u q w e heard s m r holds c =
             enters-rounds (settled paths present k) (settled-origin paths present k) hops short u q heard s w (newly-judged paths present k u q w e .1) m r holds c
+
+    -- After one round more, whoever listens to such a vertex has heard its settled path for good.
+    pub stages-heard : (k : ℕ) (heard : List ℕ) (s : List Pair)
+        → length heard ≡ 4096
+        → InRange s
+        → Contains pairs (suc (k * hops)) s
+        → (u : ℕ) (q : Path)
+        → settled paths present k u ≡ some q
+        → (v : ℕ)
+        → listens paths v u ≡ true
+        → Lasting paths (λ h. getD h (64 * v + u) 0 ≡ byteFor paths u q) (after paths heard s)
+    stages-heard k heard s m r c u q e v l =
+        let last = contains-last pairs (k * hops) s c in
+        let ranges = round-ranges heard s r (Contains pairs (k * hops)) last in
+        let holds = stages-hold k heard (last .before) m (ranges .0 .0) (last .earlier) in
+        round-lasts heard s r (Contains pairs (k * hops)) last (λ h. getD h (64 * v + u) 0 ≡ byteFor paths u q)
+        (byte-round (λ b. b ≡ byteFor paths u q) v u (after paths heard (last .before)) (last .stretch) (after-length paths heard (last .before) m)
+        (ranges .0 .1) (last .covered) l (λ t i. ap (byteFor paths u) (holds u q e t i)))
