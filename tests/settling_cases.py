@@ -1,7 +1,7 @@
 """What the rules page says of choices, rounds and stable assignments, in Python, and seeded histories of runs.
 
-Nothing here asks a program: a choice comes from the table's records and the heard bytes alone. A history is a table with
-a heard state to begin with, and a schedule cut into runs.
+Nothing here asks a program: a choice comes from the table's records and the heard bytes alone. A history is a report of
+a table with a heard state to begin with, and a schedule cut into runs.
 """
 
 import itertools
@@ -12,9 +12,9 @@ import check_cases
 import run_cases
 from check_cases import OWNERS
 from reader_cases import MOST_HOPS, RECORD_BYTES
-from run_cases import MOST_PAIRS, ZEROS, offset, schedule_of
+from run_cases import MOST_PAIRS, ZEROS, offset
 
-ABSENT, STUCK = 254, 255
+ABSENT = 254
 NONE, DESTINATION = (), (0,)
 ROW_BYTES = 16
 
@@ -104,7 +104,7 @@ class Report(NamedTuple):
         return [v for v in self.routes.present if self.stage(v) < ABSENT]
 
     def due(self, rounds):
-        """The vertices that must have settled after so many rounds: stage times longest hops is the page's bound."""
+        """The vertices that must have settled after so many rounds: those whose stage times L is no more."""
         return [v for v in self.settled() if self.stage(v) * self.longest <= rounds]
 
     def shown(self, v):
@@ -115,11 +115,10 @@ class Report(NamedTuple):
         """Those of the vertices whose path is not exactly that of their row."""
         return [v for v in vertices if as_in_a_row(self.routes, paths[v]) != self.shown(v)]
 
-    def with_path(self, v, path):
-        """A report that differs in the path of one row."""
-        at = ROW_BYTES * v + 1
-        changed = self.rows[:at] + as_in_a_row(self.routes, path) + self.rows[ROW_BYTES * (v + 1) :]
-        return self._replace(rows=changed)
+    def with_row(self, v, stage, path):
+        """A report that differs in one row."""
+        row = bytes([stage]) + as_in_a_row(self.routes, path)
+        return self._replace(rows=self.rows[: ROW_BYTES * v] + row + self.rows[ROW_BYTES * (v + 1) :])
 
 
 def as_in_a_row(routes, path):
@@ -154,6 +153,13 @@ def many_stages(rng):
     return Routes(check_cases.staged(rng, owners, rng.randint(2, 4), rng.randint(5, owners), order))
 
 
+def deep(rng):
+    """63 stages of one vertex each and no path above 2 hops, so that there is room for the rounds of all."""
+    order = rng.sample(OWNERS, len(OWNERS))
+    paths = {v: [(v, u, 0), (v, 0)] for u, v in itertools.pairwise(order)}
+    return of_paths(paths | {order[0]: [(order[0], 0)]})
+
+
 def relays(rng):
     hops = rng.randint(2, MOST_HOPS)
     layers = rng.randint(1, min(4, most_layers(hops)))
@@ -179,14 +185,16 @@ def relays_of(vertices, hops):
 
 
 def beside_a_ring(rng):
-    """A table of which a part is stuck for ever, and vertices that settle though they have paths through that part."""
-    one, other, *vertices = rng.sample(OWNERS, rng.randint(4, 10))
-    paths = check_cases.grown(rng, vertices, 4, 4, 40)
-    for v in vertices:
-        rest = rng.choice([(one, 0), (other, 0), (one, other, 0), (other, one, 0)])
-        paths[v].insert(rng.choice([0, len(paths[v]), len(paths[v])]), (v, *rest))
-    paths |= {one: [(one, other, 0), (one, 0)], other: [(other, one, 0), (other, 0)]}
-    return of_paths(paths)
+    """A ring of two, which can rest, or of three, which never does, and vertices beside it with paths through it."""
+    vertices = rng.sample(OWNERS, rng.randint(5, 12))
+    count = rng.choice([2, 3])
+    following, others = check_cases.circle(vertices[:count]), vertices[count:]
+    ring = {v: [(v, u, 0), (v, 0)] for v, u in following.items()}
+    paths = check_cases.grown(rng, others, 4, 4, 40)
+    for v in others:
+        through = rng.choice(ring[rng.choice(vertices[:count])])
+        paths[v].insert(rng.choice([0, len(paths[v]), len(paths[v])]), (v, *through))
+    return of_paths(paths | ring)
 
 
 # How each kind is made, and how many tables it has.
@@ -196,17 +204,20 @@ KINDS = {
     "long_paths": (made_by(*run_cases.LONG_PATHS), 25),
     "line": (line, 10),
     "relays": (relays, 30),
-    "many_stages": (many_stages, 8),
-    "large": (made_by(*run_cases.LARGE), 4),
-    "beside_a_ring": (beside_a_ring, 50),
+    "many_stages": (many_stages, 5),
+    "deep": (deep, 2),
+    "large": (made_by(*run_cases.LARGE), 3),
+    "beside_a_ring": (beside_a_ring, 60),
 }
 
+MOST_ASSIGNMENTS, MOST_STEPS = 500, 250
 
-def very_small(rng):
-    """A table of few vertices and paths, so that all assignments can be looked at."""
-    make = rng.choice([check_cases.small_random, check_cases.small_grown, small_ring])
+
+def few_assignments(rng):
+    """A table so small that all assignments can be looked at."""
+    make = rng.choice([check_cases.small_random, check_cases.small_grown, check_cases.small_grown, small_ring])
     routes = Routes(make(rng).table)
-    return routes if routes.assignment_count() <= MOST_ASSIGNMENTS else very_small(rng)
+    return routes if routes.assignment_count() <= MOST_ASSIGNMENTS else few_assignments(rng)
 
 
 def small_ring(rng):
@@ -215,7 +226,14 @@ def small_ring(rng):
     return check_cases.ring_case(check_cases.circle(vertices[:ring]), vertices[ring:])
 
 
-MOST_ASSIGNMENTS = 500
+def few_steps(rng):
+    """A table so small that each step from each valid heard state can be made."""
+    routes = of_paths(check_cases.grown(rng, rng.sample(OWNERS, rng.randint(2, 4)), 2, 3, 12))
+    return routes if has_few_steps(routes) and len(routes.pairs) > 2 else few_steps(rng)
+
+
+def has_few_steps(routes):
+    return routes.heard_state_count() * len(routes.pairs) <= MOST_STEPS
 
 
 # ---- schedules of rounds
@@ -226,17 +244,16 @@ def any_order(rng, report):
 
 
 def falling(rng, report):
-    """Who settles late listens first, so that news goes one hop in a round."""
-    return sorted(any_order(rng, report), key=lambda pair: -report.stage(pair[0]))
+    """Who settles late listens first, and of a stage who has the longest path, so that news goes one hop in a round."""
+
+    def earliness(pair):
+        return -report.stage(pair[0]), -max(map(len, report.routes.own(pair[0])))
+
+    return sorted(any_order(rng, report), key=earliness)
 
 
 def rising(rng, report):
     return falling(rng, report)[::-1]
-
-
-def falling_by_hops(rng, report):
-    """Who is shown with a long path listens first."""
-    return sorted(any_order(rng, report), key=lambda pair: -report.shown(pair[0])[1])
 
 
 def the_same(order):
@@ -248,7 +265,6 @@ def anew(order):
 
 
 ORDERS = [anew(any_order), the_same(any_order), the_same(falling), anew(falling), the_same(rising)]
-ORDERS += [the_same(falling_by_hops)]
 
 
 def plain(rng, order, pairs):
@@ -281,9 +297,23 @@ def rounds_of(rng, report, count):
     return [pair for pairs in rounds for pair in pairs]
 
 
-def cut(rng, pairs):
-    """Runs of any length, so that most rounds at a cut begin in one run and end in a later one."""
-    places = sorted(rng.choices(range(len(pairs) + 1), k=rng.randint(0, 5)))
+def closings(routes, pairs):
+    """After how many pairs each round closes: as soon as every listening pair has come since the last closing."""
+    since, closed = set(), []
+    for count, pair in enumerate(pairs, start=1):
+        since.add(pair)
+        if len(since) == len(routes.pairs):
+            since = set()
+            closed.append(count)
+    return closed
+
+
+def cut(rng, report, pairs):
+    """Runs of any length, so that most rounds at a cut begin in one run and end in a later one; at times a run ends
+    just where the vertices of a stage must have settled."""
+    just_due = closings(report.routes, pairs)[report.longest - 1 :: report.longest]
+    places = rng.choices(range(len(pairs) + 1), k=rng.randint(0, 4))
+    places += rng.sample(just_due, min(len(just_due), rng.randint(0, 3)))
     places = sorted({0, *places, *range(0, len(pairs), MOST_PAIRS), len(pairs)})
     return [pairs[start:end] for start, end in itertools.pairwise(places)]
 
@@ -296,18 +326,17 @@ class History(NamedTuple):
     heard: bytes  # to begin with
     runs: list  # of lists of pairs
 
+    def pairs(self, count):
+        """Those of so many runs."""
+        return [pair for run in self.runs[:count] for pair in run]
 
-LONGEST_HISTORY = 6000  # pairs, of which tables with many stages and pairs have fewer rounds than they need for all
+
+PAIRS_IN_ROUNDS = 16000  # without what is repeated or stands between; where that is too few, not all rounds are made
 
 
 def history(rng, report):
     """As many rounds as all vertices need, or as there is room for, from any valid heard state."""
     stages = max((report.stage(v) for v in report.settled()), default=1)
-    room = LONGEST_HISTORY // (2 * len(report.routes.pairs))
-    rounds = min(stages * report.longest, max(room, report.longest))
-    pairs = rounds_of(rng, report, rounds)
-    return History(report, run_cases.valid(rng, report.routes), cut(rng, pairs))
-
-
-def schedule(runs):
-    return schedule_of(itertools.chain.from_iterable(runs))
+    room = PAIRS_IN_ROUNDS // len(report.routes.pairs)
+    pairs = rounds_of(rng, report, min(stages * report.longest, max(room, report.longest)))
+    return History(report, run_cases.valid(rng, report.routes), cut(rng, report, pairs))

@@ -1,7 +1,7 @@
 """What the check reports against where the machine arrives: settling by rounds, stable assignments, resting points.
 
-Rows, heard states and rounds are those on which the proved code and the second program agree; the choices are taken from
-the heard states by settling_cases.py, which knows the rules page alone.
+Rows, heard states and rounds are those on which the proved code and the second program agree; the choices are taken
+from the heard states by settling_cases.py, which goes by the rules page alone.
 """
 
 import functools
@@ -24,12 +24,16 @@ from run_cases import ZEROS, Run, Step
 from settling_cases import NONE, Report, Routes
 
 # The tests are worth little if one of these hardly occurs: each with its least number.
-MIX = {"histories": 200, "complete": 80, "partly stuck": 50, "stale start": 100, "several runs": 100}
-MIX |= {"round over a cut": 80, "fewer rounds by the runs": 60, "due": 800, "due without a path": 50}
-MIX |= {"due at stage 3 or later": 100, "due at stage 9 or later": 20, "due with 12 hops in the table": 60}
-MIX |= {"due just now": 100, "wrong before": 80, "wrong before at stage 3 or later": 20}
+MIX = {"histories": 200, "complete": 80, "partly stuck": 50, "stale start": 100, "several runs": 150}
+MIX |= {"round over a cut": 100, "fewer rounds by the runs": 100, "due": 1000, "due without a path": 200}
+MIX |= {"due at stage 3 or later": 500, "due at stage 9 or later": 100, "due with 12 hops in the table": 200}
+MIX |= {"due just now": 500, "wrong before": 500}
+MIX |= {"wrong before and after a round": 20, "wrong before and after L rounds": 5}
 
-VERY_SMALL, FEW_STATES = 250, 128
+# The verdict, and how many stable assignments there are: none, one, or 2 and more.
+STABLE_MIX = {"complete with 1": 30, "stuck with 0": 5, "stuck with 1": 1, "stuck with 2": 5}
+
+SMALL_TABLES, MACHINES = 150, 16
 FURTHER_STEPS = 8
 PAGE_TABLES = ["empty", "direct", "disagree", "three-ring", "shortcut", "silent", "chain"]
 
@@ -44,6 +48,11 @@ def reports(kind, tables):
     cases = [check_cases.Case(routes.table, check_cases.ACCEPTED) for routes in tables]
     answers = zip(tables, test_check.compare(kind, cases))
     return [Report(routes, bytes.fromhex(a["rows"]), int(a["longest"]), a["stuck"] == "0") for routes, a in answers]
+
+
+def about(report):
+    """What a failure says of its table."""
+    return f"seed {SEED}, table {report.routes.table.hex()}"
 
 
 def sample_report(name):
@@ -73,8 +82,8 @@ def run_case(report, heard, pairs, rng):
     return Run(report.routes.table, heard, run_cases.schedule_of(pairs), run_cases.lent_sums(rng), run_cases.ACCEPTED)
 
 
-def rounds_in(report, pairs):
-    return test_run_laws.rounds_in(run_case(report, ZEROS, pairs, random))
+def step_case(report, heard, pair, says=run_cases.ACCEPTED):
+    return Step(report.routes.table, heard, bytes(pair), says)
 
 
 def all_moments(kind, histories):
@@ -90,9 +99,9 @@ def all_moments(kind, histories):
 
 
 def next_moment(history, number, last, answer):
-    pairs = [pair for run in history.runs[: number + 1] for pair in run]
+    contained = len(settling.closings(history.report.routes, history.pairs(number + 1)))
     counted = last.counted + int(answer["rounds"])
-    return Moment(last.report, test_run_laws.heard_of(answer), rounds_in(last.report, pairs), counted)
+    return Moment(history.report, test_run_laws.heard_of(answer), contained, counted)
 
 
 @functools.cache
@@ -115,10 +124,7 @@ def every_moment():
 def after_steps(kind, moments, rng):
     """The moments after one more step each, at any listening pair."""
     pairs = [rng.choice(moment.report.routes.pairs) for moment in moments]
-    cases = [
-        Step(moment.report.routes.table, moment.heard, bytes(pair), run_cases.ACCEPTED)
-        for moment, pair in zip(moments, pairs)
-    ]
+    cases = [step_case(moment.report, moment.heard, pair) for moment, pair in zip(moments, pairs)]
     answers = test_run.compare("step", kind, cases)
     return [moment._replace(heard=test_run_laws.heard_of(answer)) for moment, answer in zip(moments, answers)]
 
@@ -134,34 +140,43 @@ def history_labels(history, moments):
         "partly stuck": report.settled() and not report.is_complete,
         "stale start": any(history.heard),
         "several runs": len(history.runs) > 1,
-        "round over a cut": any(is_open(report, history.runs[:at]) for at in range(1, len(history.runs))),
+        "round over a cut": any(is_open(history, at) for at in range(1, len(history.runs))),
         "fewer rounds by the runs": end.counted < end.contained,
     }
     yield from (label for label, is_so in found.items() if is_so)
     for v in report.due(end.contained):
-        yield from due_labels(report, v, end, moments)
+        yield from due_labels(report, v, moments)
 
 
-def is_open(report, runs):
-    """Whether a round has begun at the end of these runs and not closed: fewer pairs would have as many rounds."""
-    pairs = [pair for run in runs for pair in run]
-    return bool(pairs) and rounds_in(report, pairs) == rounds_in(report, pairs[:-1])
+def is_open(history, count):
+    """Whether a round has begun in so many runs and not closed."""
+    pairs = history.pairs(count)
+    return settling.closings(history.report.routes, pairs)[-1:] != [len(pairs)]
 
 
-def due_labels(report, v, end, moments):
+def due_labels(report, v, moments):
     stage, bound = report.stage(v), report.stage(v) * report.longest
-    wrong_before = any(report.wrong([v], moment.choices()) for moment in moments if moment.contained < bound)
+    before = [moment for moment in moments if moment.contained < bound and report.wrong([v], moment.choices())]
     found = {
         "due": True,
         "due without a path": report.shown(v)[0] == 0,
         "due at stage 3 or later": stage >= 3,
         "due at stage 9 or later": stage >= 9,
         "due with 12 hops in the table": report.longest == 12,
-        "due just now": end.contained == bound,
-        "wrong before": wrong_before,
-        "wrong before at stage 3 or later": wrong_before and stage >= 3,
+        "due just now": any(moment.contained == bound for moment in moments),
+        "wrong before": before,
+        "wrong before and after a round": any(moment.contained > 0 for moment in before),
+        "wrong before and after L rounds": any(moment.contained >= report.longest for moment in before),
     }
     yield from (label for label, is_so in found.items() if is_so)
+
+
+def said(found, mix):
+    return ", ".join(f"{label}: {found[label]}" for label in mix)
+
+
+def too_few(found, mix):
+    return {label: found[label] for label in mix if found[label] < mix[label]}
 
 
 # ---- settling
@@ -174,7 +189,7 @@ class Settling(unittest.TestCase):
         self.assertGreater(sum(len(end.report.due(end.contained)) for end in ends(kind)), 0)
         for _, moments in histories(kind):
             for moment in moments:
-                self.assertEqual(moment.wrong(moment.contained), [], moment.report.routes.table.hex())
+                self.assertEqual(moment.wrong(moment.contained), [], about(moment.report))
 
     def test_it_stays_through_every_step(self):
         rng = random.Random(f"{SEED} further steps")
@@ -183,7 +198,7 @@ class Settling(unittest.TestCase):
         for _ in range(FURTHER_STEPS):
             going = after_steps("further", going, rng)
             for moment in going:
-                self.assertEqual(moment.wrong(moment.contained), [], moment.report.routes.table.hex())
+                self.assertEqual(moment.wrong(moment.contained), [], about(moment.report))
 
     def test_a_settled_table_moves_no_more(self):
         """Where all are due, a further run changes no choice at any of its steps, so that its last change is 0."""
@@ -197,9 +212,8 @@ class Settling(unittest.TestCase):
     def test_the_mix_has_each_kind(self):
         walked = [pair for kind in settling.KINDS for pair in histories(kind)]
         found = Counter(label for pair in walked for label in history_labels(*pair))
-        said = ", ".join(f"{label}: {found[label]}" for label in MIX)
-        print(f"test_settling: seed {SEED}, {said}", flush=True)
-        self.assertEqual({label: found[label] for label in MIX if found[label] < MIX[label]}, {})
+        print(f"test_settling: seed {SEED}, {said(found, MIX)}", flush=True)
+        self.assertEqual(too_few(found, MIX), {})
 
 
 def is_all_due(end):
@@ -220,19 +234,22 @@ class OwnCount(unittest.TestCase):
         fewer = [m for m in moments if m.counted < m.contained]
         self.assertGreater(sum(len(m.report.due(m.counted)) for m in fewer), 0)
         for moment in moments:
-            self.assertEqual(moment.wrong(moment.counted), [], moment.report.routes.table.hex())
+            self.assertEqual(moment.wrong(moment.counted), [], about(moment.report))
 
 
-# ---- stable assignments and resting points
+# ---- stable assignments
+
+
+def page_tables():
+    return [Routes(test_samples.sample(f"{name}.table")) for name in PAGE_TABLES]
 
 
 @functools.cache
 def small_tables():
     """Tables 1 to 7 of the page and random ones: each report with all stable assignments."""
     rng = random.Random(f"{SEED} stable")
-    tables = [Routes(test_samples.sample(f"{name}.table")) for name in PAGE_TABLES]
-    tables += [settling.very_small(rng) for _ in range(VERY_SMALL)]
-    return [(report, report.routes.stable()) for report in reports("very small", tables)]
+    tables = page_tables() + [settling.few_assignments(rng) for _ in range(SMALL_TABLES)]
+    return [(report, report.routes.stable()) for report in reports("few assignments", tables)]
 
 
 def of_page(name):
@@ -244,27 +261,104 @@ def disagreeing(report, stable):
     return [assigned for assigned in stable if report.wrong(report.settled(), assigned)]
 
 
+def stable_label(report, stable):
+    verdict = "complete" if report.is_complete else "stuck"
+    return f"{verdict} with {min(len(stable), 2)}"
+
+
 class Stable(unittest.TestCase):
     """All stable assignments of small tables, found by trying every assignment."""
 
     def test_each_agrees_with_the_report(self):
         for report, stable in small_tables():
-            self.assertEqual(disagreeing(report, stable), [], report.routes.table.hex())
+            self.assertEqual(disagreeing(report, stable), [], about(report))
 
     def test_a_complete_report_is_the_only_one(self):
         complete = [(report, stable) for report, stable in small_tables() if report.is_complete]
-        self.assertGreater(len(complete), VERY_SMALL // 5)
+        self.assertGreater(len(complete), SMALL_TABLES // 5)
         for report, stable in complete:
-            self.assertEqual(len(stable), 1, report.routes.table.hex())
+            self.assertEqual(len(stable), 1, about(report))
             self.assertEqual(report.wrong(report.routes.present, stable[0]), [])
 
     def test_tables_with_none_one_and_several_occur(self):
-        found = Counter((report.is_complete, min(len(stable), 2)) for report, stable in small_tables())
-        for kind in ((False, 0), (False, 1), (False, 2), (True, 1)):
-            self.assertGreater(found[kind], 5, f"complete and number: {kind}")
+        found = Counter(stable_label(*pair) for pair in small_tables())
+        print(f"test_settling: seed {SEED}, {said(found, STABLE_MIX)}", flush=True)
+        self.assertEqual(too_few(found, STABLE_MIX), {})
 
     def test_table_3_has_two_and_table_4_none(self):
         self.assertEqual([len(of_page(name)[1]) for name in ("disagree", "three-ring")], [2, 0])
+
+
+# ---- every step from every valid heard state
+
+
+class Machine(NamedTuple):
+    """The valid heard states of a table, and for each of them the state after the step at each listening pair."""
+
+    report: Report
+    after: dict
+
+    def resting(self):
+        return [heard for heard, steps in self.after.items() if set(steps) == {heard}]
+
+    def after_a_round(self, states):
+        """The states in which a round from any of these can end, whatever its order and what it repeats."""
+        every_pair = 2 ** len(self.report.routes.pairs) - 1
+        reached, going = set(), [(heard, 0) for heard in states]
+        while going:
+            heard, activated = node = going.pop()
+            if node not in reached:
+                reached.add(node)
+                going += [(then, activated | 1 << at) for at, then in enumerate(self.after[heard])]
+        return {heard for heard, activated in reached if activated == every_pair}
+
+    def wrong(self, vertices, states):
+        """The vertices that one of these states has wrong."""
+        choices = [self.report.routes.choices(heard) for heard in states]
+        return sorted({v for chosen in choices for v in self.report.wrong(vertices, chosen)})
+
+
+def machine_of(report):
+    states = list(report.routes.heard_states())
+    cases = [step_case(report, heard, pair) for heard in states for pair in report.routes.pairs]
+    answers = test_run.compare("step", "every valid state", cases)
+    found = [test_run_laws.heard_of(answer) for answer in answers]
+    width = len(report.routes.pairs)
+    return Machine(report, {heard: found[at * width : (at + 1) * width] for at, heard in enumerate(states)})
+
+
+@functools.cache
+def machines():
+    """Tables 2, 3, 6 and 7 of the page, a relay, and random tables."""
+    rng = random.Random(f"{SEED} machines")
+    tables = [routes for routes in page_tables() if routes.pairs and settling.has_few_steps(routes)]
+    tables += [settling.relays_of([1, 2, 3], 2)] + [settling.few_steps(rng) for _ in range(MACHINES)]
+    return [machine_of(report) for report in reports("few steps", tables)]
+
+
+class EverySchedule(unittest.TestCase):
+    """From every valid heard state of the smallest tables, by rounds in every order with every repetition."""
+
+    def test_it_settles(self):
+        self.assertGreater(sum(bool(machine.report.settled()) for machine in machines()), MACHINES // 2)
+        for machine in machines():
+            states, rounds = set(machine.after), 0
+            while machine.report.due(rounds) != machine.report.settled():
+                states, rounds = machine.after_a_round(states), rounds + 1
+                due = machine.report.due(rounds)
+                self.assertEqual(machine.wrong(due, states), [], about(machine.report))
+
+    def test_table_7_needs_as_many_rounds_as_stages(self):
+        """In all states, then in those after a round, and so on; a bound below 3 would be wrong here."""
+        chain, wrong = machine_of(sample_report("chain")), []
+        states = set(chain.after)
+        for _ in range(5):
+            wrong.append(chain.wrong([1, 2, 3], states))
+            states = chain.after_a_round(states)
+        self.assertEqual(wrong, [[1, 2, 3], [2, 3], [3], [], []])
+
+
+# ---- resting points
 
 
 def unmoved(kind, states):
@@ -284,34 +378,44 @@ class Resting(unittest.TestCase):
         return [(report, assigned, report.routes.storing(assigned)) for report, assigned in pairs]
 
     def test_a_stored_assignment_is_valid_and_chosen(self):
-        self.assertGreater(len(self.stored()), VERY_SMALL // 2)
+        self.assertGreater(len(self.stored()), SMALL_TABLES // 2)
         for report, assigned, heard in self.stored():
             self.assertTrue(report.routes.is_valid(heard))
             self.assertEqual(report.routes.choices(heard), assigned)
 
     def test_no_step_changes_a_stored_assignment(self):
-        steps = [
-            Step(report.routes.table, heard, bytes(pair), run_cases.ACCEPTED | {"movement": "0", "heard": heard.hex()})
-            for report, _, heard in self.stored()
+        unchanged = [run_cases.ACCEPTED | {"movement": "0", "heard": heard.hex()} for _, _, heard in self.stored()]
+        cases = [
+            step_case(report, heard, pair, says)
+            for (report, _, heard), says in zip(self.stored(), unchanged)
             for pair in report.routes.pairs
         ]
-        self.assertEqual(len(test_run.compare("step", "stored assignment", steps)), len(steps))
+        self.assertEqual(len(test_run.compare("step", "stored assignment", cases)), len(cases))
 
     def test_what_rests_is_a_stable_assignment(self):
-        """All valid heard states of the smallest tables: as many rest as there are stable assignments."""
-        tables = [(report, stable) for report, stable in small_tables() if is_enumerable(report.routes)]
-        self.assertGreater(len(tables), VERY_SMALL // 5)
-        states = [(report, heard) for report, _ in tables for heard in report.routes.heard_states()]
-        resting = [state for state, is_so in zip(states, unmoved("resting", states)) if is_so]
-        self.assertLess(len(resting), len(states) // 4)
+        """Of all valid heard states of the smallest tables those rest that store a stable assignment, and no others."""
+        for machine in machines():
+            routes = machine.report.routes
+            self.assertEqual(set(machine.resting()), {routes.storing(assigned) for assigned in routes.stable()})
+            for heard in machine.resting():
+                self.assertTrue(routes.is_stable(routes.choices(heard)))
+
+    def test_tables_with_one_and_two_resting_states_occur(self):
+        found = Counter(len(machine.resting()) for machine in machines() if len(machine.after) > 2)
+        self.assertGreater(found[1], MACHINES // 4)
+        self.assertGreater(found[2], 0)
+
+    def test_table_4_never_rests(self):
+        report = sample_report("three-ring")
+        states = [(report, heard) for heard in report.routes.heard_states()]
+        self.assertEqual(sum(unmoved("three-ring", states)), 0)
+
+    def test_a_history_that_ends_at_rest_ends_in_a_stable_assignment(self):
+        ended = [(end.report, end.heard) for kind in settling.KINDS for end in ends(kind)]
+        resting = [state for state, is_so in zip(ended, unmoved("ends", ended)) if is_so]
+        self.assertTrue(MIX["histories"] // 4 < len(resting) < len(ended))
         for report, heard in resting:
-            self.assertTrue(report.routes.is_stable(report.routes.choices(heard)))
-        found = Counter(report for report, _ in resting)
-        self.assertEqual([found[report] for report, _ in tables], [len(stable) for _, stable in tables])
-
-
-def is_enumerable(routes):
-    return 0 < len(routes.pairs) and routes.heard_state_count() <= FEW_STATES
+            self.assertTrue(report.routes.is_stable(report.routes.choices(heard)), about(report))
 
 
 # ---- these tests can fail
@@ -325,7 +429,7 @@ class CanFail(unittest.TestCase):
     """Too few rounds and wrong reports, found by the functions that the tests above go by."""
 
     def test_table_7_is_wrong_after_two_rounds(self):
-        """From late to early in each round, 3 hears of 2's first path when 2 has left it."""
+        """From late to early in each round, 3 hears of 2's direct path just before 2 leaves it."""
         report = sample_report("chain")
         moments = walked(report, ZEROS, [[(3, 2), (2, 1), (2, 0), (1, 0)]] * 6)
         wrong = [report.wrong([1, 2, 3], moment.choices()) for moment in moments]
@@ -349,14 +453,17 @@ class CanFail(unittest.TestCase):
 
     def test_a_wrong_row_is_found(self):
         """Each row of a vertex that is due, with each other path that it could show."""
-        planted = 0
-        for end in (end for kind in ("small", "relays", "silent") for end in ends(kind)):
-            for v in end.report.due(end.contained):
-                for path in other_paths(end, v):
-                    wrong = end._replace(report=end.report.with_path(v, path)).wrong(end.contained)
-                    self.assertEqual(wrong, [v])
-                    planted += 1
-        self.assertGreater(planted, MIX["due"] // 2)
+        planted = [
+            (end, v, path)
+            for kind in ("small", "relays", "silent")
+            for end in ends(kind)
+            for v in end.report.due(end.contained)
+            for path in other_paths(end, v)
+        ]
+        self.assertGreater(len(planted), MIX["due"] // 2)
+        for end, v, path in planted:
+            wrong = end.report.with_row(v, end.report.stage(v), path)
+            self.assertEqual(end._replace(report=wrong).wrong(end.contained), [v])
 
     def test_a_machine_that_stays_is_found(self):
         """The states at the start, in place of those after the rounds."""
@@ -365,12 +472,13 @@ class CanFail(unittest.TestCase):
         self.assertGreater(sum(bool(moment.wrong(moment.contained)) for moment in found), MIX["histories"] // 4)
 
     def test_a_wrong_report_disagrees_with_a_stable_assignment(self):
-        """Of table 3 nobody settles: whichever path a report gave to 1, one of the two stable assignments has another."""
-        report, stable = of_page("disagree")
-        for path in [NONE, *report.routes.own(1)]:
-            rows = bytearray(report.with_path(1, path).rows)
-            rows[settling.ROW_BYTES] = 1
-            self.assertGreater(len(disagreeing(report._replace(rows=bytes(rows)), stable)), 0)
+        """Of table 3 nobody settles: whichever path a report gave to 1, one of the two stable assignments has another.
+        Of table 5 a check that compares only direct paths would settle 2 on (2 0)."""
+        report, _ = of_page("disagree")
+        wrong = [("disagree", 1, path) for path in [NONE, *report.routes.own(1)]] + [("shortcut", 2, (2, 0))]
+        for name, v, path in wrong:
+            report, stable = of_page(name)
+            self.assertGreater(len(disagreeing(report.with_row(v, 1, path), stable)), 0)
 
     def test_a_state_that_moves_is_seen(self):
         """Table 2 from zeros has one step, and it changes its byte."""
