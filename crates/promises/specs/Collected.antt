@@ -126,8 +126,13 @@ reported-settles : (t : List ℕ)
     → Shown t (report t .rows) (left heard rs) v
 reported-settles t accepted heard valid rs ran v h counted enough =
     let calls = map callOf rs in
-    let stays = settling-answered t heard v (getD (rowOf t v) 0 0) accepted (record { vertex = h; stage = refl; counted = counted }) valid calls
-    (all-accepted t heard rs ran) (rw (all-seen t heard rs ran) enough) in
+    let given = record {
+      table = accepted;
+      row = record { vertex = h; stage = refl; counted = counted };
+      state = valid;
+      each = all-accepted t heard rs ran;
+    } in
+    let stays = settling-answered t heard v (getD (rowOf t v) 0 0) calls given (rw (all-seen t heard rs ran) enough) in
     rw (← (all-left t heard rs ran)) (reported-shown t (heardAfter t heard calls) v accepted h (stays .now))
 
 -- a check that is not refused has accepted the table and what was lent

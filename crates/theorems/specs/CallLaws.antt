@@ -57,7 +57,7 @@ does t heard (ofRun s sums) e =
 does t heard (ofStep p) e =
     record {
       admitted = step-admitted t heard p e;
-      after = rw e (sym (run-heard (pathsOf t) heard (p ∷ [])));
+      after = ap (λ r. unless r (step (pathsOf t) heard p) heard) e ∙ sym (run-heard (pathsOf t) heard (p ∷ []));
       rounds = contains-none (listeningOffsets (pathsOf t)) (p ∷ []);
       counted = omega arith;
     }

@@ -11,7 +11,6 @@ use Rattle.rules.specs.Table.{Path, pathsOf}
 use Rattle.rules.specs.Report.{rankIn, rowAt, pathShown, report}
 use Rattle.rules.specs.Machine.{Pair, heardFault, choice}
 use Rattle.rules.specs.Run.{pairsIn, run}
-use Rattle.rules.specs.Rounds.{Contains}
 use Rattle.rules.specs.Refusals.{Refusal, refusal}
 use Rattle.rules.specs.Answers.{stepRefusal, heardAfterStep, runRefusal, runNumbers, heardAfterRun}
 
@@ -77,6 +76,13 @@ pub record SettledAt (t : List ℕ) (v k : ℕ) : Type 0 where
   pub stage : getD (rowOf t v) 0 0 ≡ k
   pub counted : k ≤ 63
 
+-- What is given: an accepted table, a router whose row says stage k, a valid heard state, and calls none of which is refused.
+pub record Given (t heard : List ℕ) (v k : ℕ) (calls : List Call) : Type 0 where
+  pub table : refusal t ≡ none
+  pub row : SettledAt t v k
+  pub state : Valid t heard
+  pub each : AllAccepted t heard calls
+
 -- p is what the row of v reports, [] where it reports no path: "byte 1 rank, byte 2 hops, bytes 3 to 15 the vertices, then 255".
 pub record AsReported (t : List ℕ) (v : ℕ) (p : Path) : Type 0 where
   pub rank : rankIn (pathsOf t) v p ≡ getD (rowOf t v) 1 0
@@ -91,15 +97,3 @@ pub record Stays (t heard : List ℕ) (v : ℕ) : Type 0 where
       → AllAccepted t heard later
       → (n : ℕ)
       → AsReported t v (choice (pathsOf t) (heardAfterPairs t heard later n) v)
-
--- What is claimed with rounds of the pairs that `pairs t` gives, so many of them for stage k and longest path of l hops.
-abbrev pub Settling : (List ℕ → List ℕ) → (ℕ → ℕ → ℕ) → Type 0
-Settling pairs enough =
-    (t heard : List ℕ) (v k : ℕ)
-    → refusal t ≡ none
-    → SettledAt t v k
-    → Valid t heard
-    → (calls : List Call)
-    → AllAccepted t heard calls
-    → Contains (pairs t) (enough k (report t .hops)) (pairsOf calls)
-    → Stays t (heardAfter t heard calls) v

@@ -6,7 +6,7 @@ use mathlib.Core.Bool.{true, false}
 use mathlib.Core.List.{List, [], _∷_}
 use mathlib.Core.Option.{none}
 use native.Mathlib.Omega.{arith}
-use lib.ListN.{getD}
+use lib.ListN.{getD, set}
 use lib.Seq.{set-getD}
 use lib.Dec.{eqb}
 use borrow.Author.Tests.{eqb-true}
@@ -59,7 +59,7 @@ module _ (t : List ℕ) (accepted : refusal t ≡ none) where
   resting-unchanged heard rests p =
       by-option (stepRefusal t heard p)
       (λ e. let l = all-listen (pathsOf t) (p ∷ []) p (step-admitted t heard p e .listening) 0 (omega arith) in
-      rw (e, ← (rests p l)) (set-getD heard (offsetOf p) 0))
+      rw e (ap (set heard (offsetOf p)) (sym (rests p l)) ∙ set-getD heard (offsetOf p) 0))
       (λ r e. rw e)
 
   -- .. and only in such a state.

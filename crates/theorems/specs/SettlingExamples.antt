@@ -4,7 +4,6 @@ use Prim.{tt}
 use Prim.Native.Nat.{ℕ, zero, suc, _+_, _-_, _*_, _≤_}
 use mathlib.Core.Path.{_≡_, refl, sym, ap, _∙_, subst}
 use mathlib.Core.List.{List, [], _∷_, _++_}
-use mathlib.Core.Option.{none}
 use native.Mathlib.Omega.{arith}
 use lib.ListN.{length, set, replicate, drop}
 use lib.IntN.{pos}
@@ -24,8 +23,8 @@ use Rattle.rules.specs.Rounds.{Contains}
 use Rattle.rules.specs.Answers.{otherLength, scheduleBad, firstBadPair, stepRefusal, runRefusal, runNumbers, heardAfterStep, heardAfterRun, unless}
 use Rattle.rules.specs.Examples.{recordBytes, blockBytes, tableBytes, table7}
 use Rattle.rules.specs.RoundLaws.{rounds-contained, contains-none, contains-more, contains-fewer}
-use Rattle.theorems.specs.Claims.{Call, ofRun, ofStep, callRefusal, heardAfterCall, pairsOfCall, roundsOfCall, AllAccepted, heardAfter, pairsOf, roundsAnswered, Valid, rowOf, SettledAt, Stays, Settling}
-use Rattle.theorems.specs.Settling.{settling}
+use Rattle.theorems.specs.Claims.{Call, ofRun, ofStep, callRefusal, heardAfterCall, pairsOfCall, roundsOfCall, AllAccepted, heardAfter, pairsOf, roundsAnswered, Given, rowOf, Stays}
+use Rattle.theorems.specs.Settling.{Settling, allPairs, settling}
 
 -- Table 2 of the rules page, one direct path, and table 7, whose router 3 settles at stage 3 without a path.
 unfoldable pub second : List ℕ
@@ -62,37 +61,30 @@ sixRounds =
 unfoldable pub twoRounds : List Call
 twoRounds = aRun (times 2 slowRound) ∷ []
 
--- What the theorem asks of a heard state and of calls with n rounds.
-pub record Ready (t heard : List ℕ) (calls : List Call) (n : ℕ) : Type 0 where
-  pub valid : Valid t heard
-  pub accepted : AllAccepted t heard calls
-  pub rounds : run (pathsOf t) heard (pairsOf calls) .rounds ≡ n
-
--- What a table's report and one of its routers are in an example.
-pub record Told (t : List ℕ) (v k hops : ℕ) (shown : Path) : Type 0 where
-  pub accepted : refusal t ≡ none
+-- What is given in an example, with the numbers of rounds and hops and the path that the row shows.
+pub record Example (t heard : List ℕ) (v k : ℕ) (calls : List Call) (rounds hops : ℕ) (shown : Path) : Type 0 where
+  pub given : Given t heard v k calls
+  pub counted : run (pathsOf t) heard (pairsOf calls) .rounds ≡ rounds
   pub longest : report t .hops ≡ hops
-  pub settledAt : SettledAt t v k
   pub path : pathShown (rowOf t v) ≡ shown
 
 -- Everything that is found by computing.
 pub record Computed : Type 0 where
-  pub table7 : Told seventh 3 3 2 []
-  pub zerosReady : Ready seventh zeros sixRounds 6
-  pub leftoverReady : Ready seventh leftover sixRounds 6
-  -- router 3 has (3 2 0) in the leftover, and none after the six rounds
+  -- router 3 of table 7, stage 3 with no path, six rounds from zeros and from the leftover
+  pub ofZeros : Example seventh zeros 3 3 sixRounds 6 2 []
+  pub ofLeftover : Example seventh leftover 3 3 sixRounds 6 2 []
+  -- it has (3 2 0) in the leftover, and none after the six rounds
   pub leftoverChoice : choice (pathsOf seventh) leftover 3 ≡ 3 ∷ 2 ∷ 0 ∷ []
   pub settledChoice : choice (pathsOf seventh) (heardAfter seventh leftover sixRounds) 3 ≡ []
   -- the two runs answer one round and four, where the whole has six
   pub answered : roundsAnswered seventh zeros sixRounds ≡ 5
-  -- after two rounds router 3 is not yet right
-  pub twoReady : Ready seventh zeros twoRounds 2
+  -- after two rounds it is not yet right
+  pub ofTwo : Example seventh zeros 3 3 twoRounds 2 2 []
   pub twoChoice : choice (pathsOf seventh) (heardAfter seventh zeros twoRounds) 3 ≡ 3 ∷ 2 ∷ 0 ∷ []
-  -- with no round at all router 1 of table 2 is not right
-  pub table2 : Told second 1 1 1 (1 ∷ 0 ∷ [])
-  pub noneReady : Ready second zeros [] 0
+  -- with no round at all router 1 of table 2, stage 1, is not right
+  pub ofNone : Example second zeros 1 1 [] 0 1 (1 ∷ 0 ∷ [])
   pub noneChoice : choice (pathsOf second) (heardAfter second zeros []) 1 ≡ []
-  pub onePair : listeningOffsets (pathsOf second) ≡ 64 ∷ []
+  pub onePair : allPairs second ≡ 64 ∷ []
 
 pub computed : Computed
 unfolding refusedIf refusedAt _orElse_ otherLength scheduleBad firstBadPair stepRefusal runRefusal heardAfterStep heardAfterRun unless outside firstFrom anyBelow
@@ -107,77 +99,71 @@ unfolding refusedIf refusedAt _orElse_ otherLength scheduleBad firstBadPair step
     second seventh vertices pathShown heardAfter roundsAnswered roundsOfCall runNumbers
 computed =
     record {
-      table7 = record { accepted = refl; longest = refl; settledAt = record { vertex = omega arith; stage = refl; counted = omega arith }; path = refl };
-      zerosReady = record { valid = record { long = refl; fine = refl }; accepted = (refl, (refl, (refl, tt))); rounds = refl };
-      leftoverReady = record { valid = record { long = refl; fine = refl }; accepted = (refl, (refl, (refl, tt))); rounds = refl };
+      ofZeros = record { given = record { table = refl; row = record { vertex = omega arith; stage = refl; counted = omega arith }; state = record { long = refl; fine = refl }; each = (refl, (refl, (refl, tt))) }; counted = refl; longest = refl; path = refl };
+      ofLeftover = record { given = record { table = refl; row = record { vertex = omega arith; stage = refl; counted = omega arith }; state = record { long = refl; fine = refl }; each = (refl, (refl, (refl, tt))) }; counted = refl; longest = refl; path = refl };
       leftoverChoice = refl;
       settledChoice = refl;
       answered = refl;
-      twoReady = record { valid = record { long = refl; fine = refl }; accepted = (refl, tt); rounds = refl };
+      ofTwo = record { given = record { table = refl; row = record { vertex = omega arith; stage = refl; counted = omega arith }; state = record { long = refl; fine = refl }; each = (refl, tt) }; counted = refl; longest = refl; path = refl };
       twoChoice = refl;
-      table2 = record { accepted = refl; longest = refl; settledAt = record { vertex = omega arith; stage = refl; counted = omega arith }; path = refl };
-      noneReady = record { valid = record { long = refl; fine = refl }; accepted = tt; rounds = refl };
+      ofNone = record { given = record { table = refl; row = record { vertex = omega arith; stage = refl; counted = omega arith }; state = record { long = refl; fine = refl }; each = tt }; counted = refl; longest = refl; path = refl };
       noneChoice = refl;
       onePair = refl;
     }
 
--- the rounds of the whole, by computing, are rounds that it contains
-contained : (t heard : List ℕ) (calls : List Call) (n : ℕ) → Ready t heard calls n → Contains (listeningOffsets (pathsOf t)) n (pairsOf calls)
-contained t heard calls n r =
-    subst (λ m. Contains (listeningOffsets (pathsOf t)) m (pairsOf calls)) (r .rounds) (rounds-contained (pathsOf t) heard (pairsOf calls))
+-- the rounds that one run over the whole counts are rounds that it contains
+contained : {t heard : List ℕ} {v k : ℕ} {calls : List Call} {rounds hops : ℕ} {shown : Path}
+    → Example t heard v k calls rounds hops shown
+    → Contains (allPairs t) rounds (pairsOf calls)
+contained {t} {heard} {v} {k} {calls} x =
+    subst (λ n. Contains (allPairs t) n (pairsOf calls)) (x .counted) (rounds-contained (pathsOf t) heard (pairsOf calls))
 
-settled-example : (t heard : List ℕ) (v k hops : ℕ) (shown : Path) (calls : List Call)
-    → Told t v k hops shown
-    → Ready t heard calls (k * hops)
+settles : {t heard : List ℕ} {v k : ℕ} {calls : List Call} {hops : ℕ} {shown : Path}
+    → Example t heard v k calls (k * hops) hops shown
     → Stays t (heardAfter t heard calls) v
-settled-example t heard v k hops shown calls told r =
-    settling t heard v k (told .accepted) (told .settledAt) (r .valid) calls (r .accepted)
-    (subst (λ n. Contains (listeningOffsets (pathsOf t)) (k * n) (pairsOf calls)) (sym (told .longest)) (contained t heard calls (k * hops) r))
+settles {t} {heard} {v} {k} {calls} x =
+    settling t heard v k calls (x .given)
+    (subst (λ n. Contains (allPairs t) (k * n) (pairsOf calls)) (sym (x .longest)) (contained x))
 
 -- From zeros, after six rounds, router 3 of table 7 has what its row reports, for good ..
 pub from-zeros : Stays seventh (heardAfter seventh zeros sixRounds) 3
-from-zeros = settled-example seventh zeros 3 3 2 [] sixRounds (computed .table7) (computed .zerosReady)
+from-zeros = settles (computed .ofZeros)
 
 -- .. and from the leftover as well.
 pub from-leftover : Stays seventh (heardAfter seventh leftover sixRounds) 3
-from-leftover = settled-example seventh leftover 3 3 2 [] sixRounds (computed .table7) (computed .leftoverReady)
-
--- the pairs of demand 3's rounds
-abbrev pub allPairs : List ℕ → List ℕ
-allPairs t = listeningOffsets (pathsOf t)
+from-leftover = settles (computed .ofLeftover)
 
 -- an example in which the choice is not what the row shows refutes the claim
-refuted : (pairs : List ℕ → List ℕ) (enough : ℕ → ℕ → ℕ) (t heard : List ℕ) (v k hops n : ℕ) (shown chosen : Path) (calls : List Call)
-    → Told t v k hops shown
-    → Ready t heard calls n
-    → Contains (pairs t) (enough k hops) (pairsOf calls)
+refuted : (pairs : List ℕ → List ℕ) (enough : ℕ → ℕ → ℕ) {t heard : List ℕ} {v k : ℕ} {calls : List Call} {rounds hops : ℕ} {shown : Path}
+    → Example t heard v k calls rounds hops shown
+    → (chosen : Path)
     → choice (pathsOf t) (heardAfter t heard calls) v ≡ chosen
     → (length chosen ≡ length shown → ⊥)
+    → Contains (pairs t) (enough k hops) (pairsOf calls)
     → Settling pairs enough
     → ⊥
-refuted pairs enough t heard v k hops n shown chosen calls told r rounds e differ claim =
-    let stays = claim t heard v k (told .accepted) (told .settledAt) (r .valid) calls (r .accepted)
-    (subst (λ m. Contains (pairs t) (enough k m) (pairsOf calls)) (sym (told .longest)) rounds) in
-    differ (ap length (sym e ∙ stays .now .path ∙ told .path))
+refuted pairs enough {t} {heard} {v} {k} {calls} x chosen e differ rounds claim =
+    let stays = claim t heard v k calls (x .given) (subst (λ n. Contains (pairs t) (enough k n) (pairsOf calls)) (sym (x .longest)) rounds) in
+    differ (ap length (sym e ∙ stays .now .path ∙ x .path))
 
--- No number of rounds that is 0 for stage 1 and one hop is enough, so neither k times (L minus 1) nor (k minus 1) times L is ..
+-- No number of rounds that is 0 for stage 1 and one hop is enough: table 2 ..
 pub no-rounds-short : (enough : ℕ → ℕ → ℕ) → enough 1 1 ≡ 0 → Settling allPairs enough → ⊥
 no-rounds-short enough e =
-    refuted allPairs enough second zeros 1 1 1 0 (1 ∷ 0 ∷ []) [] [] (computed .table2) (computed .noneReady)
-    (subst (λ n. Contains (allPairs second) n (pairsOf [])) (sym e) (contains-none (allPairs second) (pairsOf []))) (computed .noneChoice) (λ q. omega arith)
+    refuted allPairs enough (computed .ofNone) [] (computed .noneChoice) (λ q. omega arith)
+    (subst (λ n. Contains (allPairs second) n (pairsOf [])) (sym e) (contains-none (allPairs second) (pairsOf [])))
 
+-- .. so neither is k times (L minus 1), nor (k minus 1) times L ..
 pub fewer-hops-short : Settling allPairs (λ k hops. k * (hops - 1)) → ⊥
 fewer-hops-short = no-rounds-short (λ k hops. k * (hops - 1)) refl
 
 pub fewer-stages-short : Settling allPairs (λ k hops. (k - 1) * hops) → ⊥
 fewer-stages-short = no-rounds-short (λ k hops. (k - 1) * hops) refl
 
--- .. nor is one that is at most 2 for stage 3 and two hops.
+-- .. nor any number that is at most 2 for stage 3 and two hops: table 7.
 pub two-rounds-short : (enough : ℕ → ℕ → ℕ) → enough 3 2 ≤ 2 → Settling allPairs enough → ⊥
 two-rounds-short enough h =
-    refuted allPairs enough seventh zeros 3 3 2 2 [] (3 ∷ 2 ∷ 0 ∷ []) twoRounds (computed .table7) (computed .twoReady)
-    (contains-fewer (allPairs seventh) (enough 3 2) 2 (pairsOf twoRounds) h (contained seventh zeros twoRounds 2 (computed .twoReady)))
-    (computed .twoChoice) (λ q. omega arith)
+    refuted allPairs enough (computed .ofTwo) (3 ∷ 2 ∷ 0 ∷ []) (computed .twoChoice) (λ q. omega arith)
+    (contains-fewer (allPairs seventh) (enough 3 2) 2 (pairsOf twoRounds) h (contained (computed .ofTwo)))
 
 -- of no pairs every schedule contains as many rounds as one likes
 rounds-of-nothing : (n : ℕ) → Contains [] n (pairsOf [])
@@ -185,8 +171,8 @@ unfolding pairsOf
 rounds-of-nothing zero = contains-none [] []
 rounds-of-nothing (suc n) = contains-more [] n [] [] (rounds-of-nothing n) (λ k e. absurd (true≢ e (elem-nil k)))
 
--- Rounds that may leave out a listening pair are not enough, however many they are.
+-- Rounds that may leave out one listening pair are not enough, however many they are.
 pub some-pairs-short : (enough : ℕ → ℕ → ℕ) → Settling (λ t. drop 1 (allPairs t)) enough → ⊥
 some-pairs-short enough =
-    refuted (λ t. drop 1 (allPairs t)) enough second zeros 1 1 1 0 (1 ∷ 0 ∷ []) [] [] (computed .table2) (computed .noneReady)
-    (rw (computed .onePair) (rounds-of-nothing (enough 1 1))) (computed .noneChoice) (λ q. omega arith)
+    refuted (λ t. drop 1 (allPairs t)) enough (computed .ofNone) [] (computed .noneChoice) (λ q. omega arith)
+    (rw (computed .onePair) (rounds-of-nothing (enough 1 1)))
