@@ -26,7 +26,7 @@ use Rattle.answer.specs.MeaningLaws.{meaning-tells}
 use Rattle.answer.specs.Moves.{runRefusalIn, runNumbersIn}
 use Rattle.checker.specs.Checked.{Checked}
 use Rattle.machine.specs.Ran.{Ran}
-use Rattle.theorems.specs.Claims.{Call, ofRun, callRefusal, heardAfterCall, roundsOfCall, AllAccepted, heardAfter, roundsAnswered, Valid, rowOf, AsReported}
+use Rattle.theorems.specs.Claims.{Call, ofRun, callRefusal, heardAfterCall, roundsOfCall, AllAccepted, heardAfter, roundsAnswered, Valid, rowOf, Given, AsReported}
 use Rattle.theorems.specs.Settling.{settling-answered}
 
 -- A run as the collector saw it: what it lent, and what it found afterwards.
@@ -126,7 +126,8 @@ reported-settles : (t : List ℕ)
     → Shown t (report t .rows) (left heard rs) v
 reported-settles t accepted heard valid rs ran v h counted enough =
     let calls = map callOf rs in
-    let given = record {
+    let given : Given t heard v (getD (rowOf t v) 0 0) calls =
+    record {
       table = accepted;
       row = record { vertex = h; stage = refl; counted = counted };
       state = valid;
