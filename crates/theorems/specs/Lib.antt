@@ -1,11 +1,15 @@
+-- The theorems, over a table's bytes, with what they speak of first and examples last.
 pub mod Claims
 pub mod Settling
 pub mod StableAssignments
 pub mod RestingPoints
-pub mod LastingLaws
-pub mod EnteringLaws
-pub mod StageLaws
-pub mod AgreementLaws
+pub mod SettlingExamples
+-- The laws behind them: over bytes, ..
 pub mod RowLaws
 pub mod CallLaws
-pub mod SettlingExamples
+-- .. and over paths, each file on the ones before it.
+pub mod EnteringLaws
+pub mod LastingLaws
+pub mod HearingLaws
+pub mod StageLaws
+pub mod AgreementLaws
