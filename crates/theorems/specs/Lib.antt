@@ -3,6 +3,7 @@ pub mod Claims
 pub mod Settling
 pub mod StableAssignments
 pub mod RestingPoints
+pub mod FinalState
 pub mod SettlingExamples
 -- The laws behind them: over bytes, ..
 pub mod RowLaws

@@ -96,7 +96,7 @@ module _ (t : List ℕ) (accepted : refusal t ≡ none) where
       }
 
   -- a vertex that is listened to is present
-  speaker-present : (v u : ℕ) → listens (pathsOf t) v u ≡ true → present t u ≡ true
+  pub speaker-present : (v u : ℕ) → listens (pathsOf t) v u ≡ true → present t u ≡ true
   unfolding listens nextHop
   speaker-present v u l =
       let k = some-at (λ p. eqb (nextHop p) u) (pathsOf t v) [] l in
@@ -157,16 +157,24 @@ module _ (t : List ℕ) (accepted : refusal t ≡ none) where
         let u = p .speaker in
         stored-at p l ∙ ap (byteFor (pathsOf t) u) (sym (storing-choices u (speaker-present (p .listener) u l)))
 
-  -- And every valid state in which the machine rests is the one that stores its choices.
-  pub resting-stored : (heard : List ℕ) → Valid t heard → Resting t heard → heard ≡ storing t (choice (pathsOf t) heard)
-  unfolding storing offsetOf listensAt
-  resting-stored heard valid rests =
+  -- a valid state that holds what is assigned at every listening pair is the state that stores it
+  pub stored-everywhere : (heard : List ℕ) (assigned : ℕ → Path)
+      → Valid t heard
+      → ((v u : ℕ) → listens (pathsOf t) v u ≡ true → getD heard (64 * v + u) 0 ≡ byteFor (pathsOf t) u (assigned u))
+      → heard ≡ storing t assigned
+  unfolding storing listensAt
+  stored-everywhere heard assigned valid holds =
       let paths = pathsOf t in
-      let now = choice paths heard in
-      is-tabulate (storedByte t now) 0 4096 heard (valid .long)
+      is-tabulate (storedByte t assigned) 0 4096 heard (valid .long)
       (λ k h. by-test (listensAt paths k)
       (λ q. let z : 64 * (k / 64) + k % 64 ≡ k = omega arith in
-      rw (stored-listening t now k q) (rw z at (rests (record { listener = k / 64; speaker = k % 64 }) q)))
-      (λ q. rw (stored-elsewhere t now k q)
+      rw (stored-listening t assigned k q) (rw z at (holds (k / 64) (k % 64) q)))
+      (λ q. rw (stored-elsewhere t assigned k q)
       (by-equal (getD heard k 0) 0 (λ e. e)
       (λ e. absurd (true≢ (byte-fits paths k (getD heard k 0) (valid-bytes paths heard (valid .fine) k (omega (arith, valid .long))) e .0) q)))))
+
+  -- And every valid state in which the machine rests is the one that stores its choices.
+  pub resting-stored : (heard : List ℕ) → Valid t heard → Resting t heard → heard ≡ storing t (choice (pathsOf t) heard)
+  unfolding offsetOf
+  resting-stored heard valid rests =
+      stored-everywhere heard (choice (pathsOf t) heard) valid (λ v u l. rests (record { listener = v; speaker = u }) l)

@@ -21,6 +21,10 @@ use Rattle.theorems.specs.Claims.{rowOf, SettledAt, AsReported}
 use Rattle.theorems.specs.RowLaws.{reported, row-tells}
 use Rattle.theorems.specs.AgreementLaws.{stable-agrees, settled-stable}
 
+-- The paths that the rows report.
+abbrev pub reportedPaths : List ℕ → ℕ → Path
+reportedPaths t v = pathShown (rowOf t v)
+
 -- the verdict is complete where the ring is empty
 complete-empty : (n : ℕ) → verdictOf n ≡ complete → n ≡ 0
 unfolding verdictOf
@@ -38,34 +42,30 @@ module _ (t : List ℕ) (accepted : refusal t ≡ none) where
       let told = row-tells t accepted v k row in
       subst (AsReported t v) (sym (stable-agrees (pathsOf t) (present t) (shaped t accepted) assigned stable k v (told .0) (told .1 .0))) (told .1 .1)
 
-  -- the paths that the rows report
-  abbrev pub reportedPaths : ℕ → Path
-  reportedPaths v = pathShown (rowOf t v)
-
   module _ (done : verdictOf (report t .ringLength) ≡ complete) where
     -- where the verdict is complete, nobody is stuck
-    none-stuck : (v : ℕ) → present t v ≡ true → final (pathsOf t) (present t) v ≢ none
+    pub none-stuck : (v : ℕ) → present t v ≡ true → final (pathsOf t) (present t) v ≢ none
     unfolding stuckIn isSettled
     none-stuck v here waits =
         let stuck : isStuck (pathsOf t) (present t) v ≡ true = rw (here, waits, isSettled) in
         omega (arith, report-ring t (shaped t accepted) v stuck, complete-empty (report t .ringLength) done)
 
-    agrees : (v : ℕ) (p : Path) → final (pathsOf t) (present t) v ≡ some p → reportedPaths v ≡ p
-    agrees v p e = sym (reported t accepted v p (settled-range (pathsOf t) (present t) (stageCount (pathsOf t) (present t)) v p e) e .path)
+    pub reported-settled : (v : ℕ) (p : Path) → final (pathsOf t) (present t) v ≡ some p → reportedPaths t v ≡ p
+    reported-settled v p e = sym (reported t accepted v p (settled-range (pathsOf t) (present t) (stageCount (pathsOf t) (present t)) v p e) e .path)
 
     -- Where the verdict is complete, the report is a stable assignment ..
-    pub complete-stable : Stable (pathsOf t) (present t) reportedPaths
+    pub complete-stable : Stable (pathsOf t) (present t) (reportedPaths t)
     complete-stable =
-        settled-stable (pathsOf t) (present t) (shaped t accepted) reportedPaths (stageCount (pathsOf t) (present t)) agrees none-stuck
+        settled-stable (pathsOf t) (present t) (shaped t accepted) (reportedPaths t) (stageCount (pathsOf t) (present t)) reported-settled none-stuck
 
     -- .. and the only one: every stable assignment gives each present router the path that its row reports.
     pub complete-only : (assigned : ℕ → Path)
         → Stable (pathsOf t) (present t) assigned
         → (v : ℕ)
         → present t v ≡ true
-        → assigned v ≡ reportedPaths v
+        → assigned v ≡ reportedPaths t v
     complete-only assigned stable v here =
         by-option (final (pathsOf t) (present t) v)
         (λ w. absurd (none-stuck v here w))
         (λ p e. stable-agrees (pathsOf t) (present t) (shaped t accepted) assigned stable (stageCount (pathsOf t) (present t)) v p e
-        ∙ sym (agrees v p e))
+        ∙ sym (reported-settled v p e))
