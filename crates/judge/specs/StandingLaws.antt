@@ -18,6 +18,7 @@ use Rattle.lists.specs.Fill.{tabulate, renewed}
 use Rattle.lists.specs.RenewLaws.{renewed-none, renewed-keep, renewed-store, renewed-all}
 use Rattle.rules.specs.Table.{Path, pathAt, nextHop}
 use Rattle.rules.specs.Greedy.{Settled, compatible}
+use Rattle.rules.specs.GreedyLaws.{compatible-waiting, compatible-settled}
 use Rattle.judge.specs.Standing.{isIn, heldPath, settledBy, firstRecord, bestRecord, entersWith, isJudged, shownAfter, markAfter}
 
 -- past the end of the marks nobody is settled or judged
@@ -62,19 +63,11 @@ holds-same t a b v e =
 
 -- the walk along a path to its first settled vertex
 module _ (S : Settled) where
-  pub compatible-head : (v : ℕ) (p q : Path) → S v ≡ some q → compatible S (v ∷ p) ≡ same (v ∷ p) q
-  unfolding compatible
-  compatible-head v p q e = rw (e, compatible)
-
-  pub compatible-tail : (v : ℕ) (p : Path) → S v ≡ none → compatible S (v ∷ p) ≡ compatible S p
-  unfolding compatible
-  compatible-tail v p e = rw (e, compatible)
-
   drop-head : (p : Path) (k : ℕ) (q : Path) → k < length p → S (getD p k 0) ≡ some q → compatible S (drop k p) ≡ same (drop k p) q
-  drop-head p k q h e = rw (drop-cons p k 0 h) (compatible-head (getD p k 0) (drop (suc k) p) q e)
+  drop-head p k q h e = rw (drop-cons p k 0 h) (compatible-settled S (getD p k 0) (drop (suc k) p) q e)
 
   drop-tail : (p : Path) (k : ℕ) → k < length p → S (getD p k 0) ≡ none → compatible S (drop k p) ≡ compatible S (drop (suc k) p)
-  drop-tail p k h e = rw (drop-cons p k 0 h) (compatible-tail (getD p k 0) (drop (suc k) p) e)
+  drop-tail p k h e = rw (drop-cons p k 0 h) (compatible-waiting S (getD p k 0) (drop (suc k) p) e)
 
   -- nothing is compatible with no vertex
   pub compatible-nil : compatible S [] ≡ false

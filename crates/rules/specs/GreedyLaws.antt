@@ -8,7 +8,7 @@ use Prim.Native.Nat.{ℕ, zero, suc, _+_, _-_, _<_, _≤_}
 use native.Mathlib.Omega.{arith}
 use lib.ListN.{List·getD-eq-default}
 use borrow.Author.Tests.{ne-eqb, not-true, not-false}
-use Rattle.lists.specs.Search.{anyBelow, countBelow}
+use Rattle.lists.specs.Search.{anyBelow, countBelow, same}
 use Rattle.lists.specs.SearchLaws.{Found, finds-passing, none-below, some-below, count-most, count-less}
 use Rattle.lists.specs.Tests.{by-test, by-equal, by-less, by-option, true≢, none≢some, and-parts, both}
 use Rattle.lists.specs.Fill.{tabulate}
@@ -29,6 +29,17 @@ pub is-some : (o : Option Path) → isSettled o ≡ true → (p : Path) × (o �
 unfolding isSettled
 is-some none e = absurd (true≢ {b = false} e refl)
 is-some (some p) e = (p, refl)
+
+-- compatible, by whether the first vertex is settled
+
+module _ (S : Settled) where
+  pub compatible-settled : (v : ℕ) (p q : Path) → S v ≡ some q → compatible S (v ∷ p) ≡ same (v ∷ p) q
+  unfolding compatible
+  compatible-settled v p q e = rw (e, compatible)
+
+  pub compatible-waiting : (v : ℕ) (p : Path) → S v ≡ none → compatible S (v ∷ p) ≡ compatible S p
+  unfolding compatible
+  compatible-waiting v p e = rw (e, compatible)
 
 -- a path that stands among those of a vertex is permitted to it
 pub stands-permitted : (paths : ℕ → List Path) (present : ℕ → Bool)

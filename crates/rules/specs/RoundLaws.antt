@@ -141,10 +141,6 @@ module _ (pairs : List ℕ) where
         earlier = contains-add m n s (d .before) c (d .earlier);
       })
 
-  -- and pairs in front take none away
-  pub contains-front : (n : ℕ) (s t : List Pair) → Contains pairs n t → Contains pairs n (s ++ t)
-  contains-front n s t c = let z : 0 + n ≡ n = omega arith in rw z at (contains-add 0 n s t (contains-none s) c)
-
   -- A schedule in two parts, with so many rounds in each.
   pub record Split (m n : ℕ) (s : List Pair) : Type 0 where
     pub first : List Pair

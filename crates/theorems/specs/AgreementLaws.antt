@@ -15,8 +15,8 @@ use Rattle.rules.specs.Greedy.{Settled, compatible, best, judged, settled}
 use Rattle.rules.specs.Stable.{Stable, extends, bestGiven}
 use Rattle.rules.specs.Shape.{Permitted, Shaped}
 use Rattle.rules.specs.PathLaws.{Stands, first-taken}
-use Rattle.rules.specs.GreedyLaws.{Entry, is-some, stands-permitted, judged-next, settled-later, settled-once, settled-origin, origin-path, newly-judged, entered, entered-best}
-use Rattle.theorems.specs.EnteringLaws.{rest-shorter, compatible-settled, settled-compatible, compatible-rest, rest-settled, entering}
+use Rattle.rules.specs.GreedyLaws.{compatible-settled, Entry, is-some, stands-permitted, judged-next, settled-later, settled-once, settled-origin, origin-path, newly-judged, entered, entered-best}
+use Rattle.theorems.specs.EnteringLaws.{rest-shorter, settled-compatible, compatible-rest, rest-settled, entering}
 
 module _ (paths : ℕ → List Path) (present : ℕ → Bool) (shaped : Shaped paths present) (assigned : ℕ → Path) where
   -- Each path that is assigned is permitted, and is its owner followed by what is assigned to its next hop.

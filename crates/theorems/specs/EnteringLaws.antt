@@ -17,7 +17,7 @@ use Rattle.rules.specs.Greedy.{Settled, compatible, best, judged}
 use Rattle.rules.specs.Stable.{extends, bestGiven}
 use Rattle.rules.specs.Shape.{Permitted, Shaped}
 use Rattle.rules.specs.PathLaws.{Stands, first-agrees}
-use Rattle.rules.specs.GreedyLaws.{is-some, stands-permitted, judged-path, judged-next}
+use Rattle.rules.specs.GreedyLaws.{compatible-waiting, compatible-settled, is-some, stands-permitted, judged-path, judged-next}
 
 -- a path and its parts
 
@@ -43,16 +43,6 @@ unfolding listens
 next-listens paths v k h =
     let w = nextHop (getD (paths v) k []) in
     any-at (λ p. eqb (nextHop p) w) (paths v) [] k h (eq-eqb w w refl)
-
-module _ (S : Settled) where
-  -- compatible, by whether the first vertex is settled
-  pub compatible-waiting : (v : ℕ) (p : Path) → S v ≡ none → compatible S (v ∷ p) ≡ compatible S p
-  unfolding compatible
-  compatible-waiting v p e = rw (e, compatible)
-
-  pub compatible-settled : (v : ℕ) (p q : Path) → S v ≡ some q → compatible S (v ∷ p) ≡ same (v ∷ p) q
-  unfolding compatible
-  compatible-settled v p q e = rw (e, compatible)
 
 module _ (paths : ℕ → List Path) (present : ℕ → Bool) (shaped : Shaped paths present) (S : Settled) where
   -- a settled vertex's own path is compatible

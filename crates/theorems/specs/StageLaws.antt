@@ -22,12 +22,12 @@ use Rattle.rules.specs.Run.{listeningOffsets}
 use Rattle.rules.specs.Rounds.{Contains}
 use Rattle.rules.specs.Shape.{Shaped}
 use Rattle.rules.specs.PathLaws.{Stands, first-taken}
-use Rattle.rules.specs.GreedyLaws.{stands-permitted, settled-origin, origin-path, settled-once, newly-judged, entered}
+use Rattle.rules.specs.GreedyLaws.{compatible-settled, stands-permitted, settled-origin, origin-path, settled-once, newly-judged, entered}
 use Rattle.rules.specs.MachineLaws.{choice-destination, choice-other}
 use Rattle.rules.specs.RoundLaws.{contains-split}
 use Rattle.theorems.specs.LastingLaws.{InRange, range-parts, after, after-length, Lasting, lasting-later}
 use Rattle.theorems.specs.HearingLaws.{byte-after, heard-after}
-use Rattle.theorems.specs.EnteringLaws.{rest-shorter, compatible-settled, settled-compatible, compatible-rest, next-listens, entering}
+use Rattle.theorems.specs.EnteringLaws.{rest-shorter, settled-compatible, compatible-rest, next-listens, entering}
 
 module _ (paths : ℕ → List Path) (present : ℕ → Bool) (shaped : Shaped paths present) where
   module _ (S : Settled) (origin : S 0 ≡ some (0 ∷ [])) where
