@@ -1,11 +1,12 @@
 -- The theorem at work on table 7 of the rules page, from zeros and from a leftover state; and that fewer rounds, or rounds of fewer pairs,
 -- are not enough.
 use Prim.{tt}
-use Prim.Native.Nat.{ℕ, zero, suc, _+_, _-_, _*_, _≤_}
+use Prim.Native.Nat.{ℕ, zero, suc, _<_, _+_, _-_, _*_, _≤_}
 use mathlib.Core.Path.{_≡_, refl, sym, ap, _∙_, subst}
 use mathlib.Core.List.{List, [], _∷_, _++_}
+use mathlib.Core.Option.{none}
 use native.Mathlib.Omega.{arith}
-use lib.ListN.{length, set, replicate, drop}
+use lib.ListN.{getD, length, set, replicate, drop}
 use lib.IntN.{pos}
 use Rattle.lists.specs.Search.{outside, firstFrom, anyBelow, countBelow, thoseBelow, anyIn, firstIn, elem, same, maxBelow, twice}
 use Rattle.lists.specs.Tests.{true≢}
@@ -15,23 +16,24 @@ use Rattle.lists.specs.Fold.{foldLeft}
 use Rattle.rules.specs.Table.{Path, recordAt, records, rankOf, hopsOf, pathOf, ownerOf, owned, pathsBelow, pathsOf, present, longest, nextHop, rest, first, listens, listensAt}
 use Rattle.rules.specs.Refusals.{_orElse_, hopsBad, vertexBad, unusedOf, fillerBad, twiceBad, lastBad, ownerBad, rankDue, rankBad, pathBad, inRecord, rule, recordRules, firstBroken, fault, faulty, firstBad, tooLong, ragged, refusal, refusedIf, refusedAt, badRecord}
 use Rattle.rules.specs.Greedy.{isSettled, compatible, atStart, best, judged, stage, settledList, settled, enters, quiet, stageCount, stageOf, stuckIn, follows, fromVertex, beforeVertex, closedPart, lowestOf, turned, ringFrom}
-use Rattle.rules.specs.Stable.{extends, bestGiven}
+use Rattle.rules.specs.Stable.{Stable, extends, bestGiven}
 use Rattle.rules.specs.Report.{placeIn, rankIn, rowBytes, row, rowAt, vertices, pathShown, report}
 use Rattle.rules.specs.Machine.{offsetOf, speaks, byteFor, pathFor, badAt, badByte, heardFault, lastHeard, choice, step, standingOf, standing, movement}
 use Rattle.rules.specs.Run.{pairsIn, isUp, isDown, more, listeningOffsets, closes, begun, activated, run}
 use Rattle.rules.specs.Rounds.{Contains}
-use Rattle.rules.specs.Answers.{otherLength, scheduleBad, firstBadPair, stepRefusal, runRefusal, runNumbers, heardAfterStep, heardAfterRun, unless}
+use Rattle.rules.specs.Answers.{complete, verdictOf, otherLength, scheduleBad, firstBadPair, stepRefusal, runRefusal, runNumbers, heardAfterStep, heardAfterRun, unless}
 use Rattle.rules.specs.Examples.{recordBytes, blockBytes, tableBytes, table7}
 use Rattle.rules.specs.RoundLaws.{rounds-contained, contains-none, contains-more, contains-fewer}
 use Rattle.theorems.specs.Claims.{Call, ofRun, ofStep, callRefusal, heardAfterCall, pairsOfCall, roundsOfCall, AllAccepted, heardAfter, pairsOf, roundsAnswered, Given, rowOf, Stays}
 use Rattle.theorems.specs.Settling.{Settling, allPairs, settling}
+use Rattle.theorems.specs.StableAssignments.{reportedPaths, complete-stable}
 
 -- Table 2 of the rules page, one direct path, and table 7, whose router 3 settles at stage 3 without a path.
-unfoldable pub second : List ℕ
-second = tableBytes (((1 ∷ 0 ∷ []) ∷ []) ∷ [])
+unfoldable pub table2Bytes : List ℕ
+table2Bytes = tableBytes (((1 ∷ 0 ∷ []) ∷ []) ∷ [])
 
-unfoldable pub seventh : List ℕ
-seventh = tableBytes table7
+unfoldable pub table7Bytes : List ℕ
+table7Bytes = tableBytes table7
 
 -- nothing heard yet, and a leftover: router 3 has heard from 2 its second path, (2 0), which 2 does not choose in the end
 unfoldable pub zeros : List ℕ
@@ -68,23 +70,51 @@ pub record Example (t heard : List ℕ) (v k : ℕ) (calls : List Call) (rounds 
   pub longest : report t .hops ≡ hops
   pub path : pathShown (rowOf t v) ≡ shown
 
+-- an example by its parts
+example : {t heard : List ℕ} {v k : ℕ} {calls : List Call} {rounds hops : ℕ} {shown : Path}
+    → v < 64
+    → k ≤ 63
+    → refusal t ≡ none
+    → getD (rowOf t v) 0 0 ≡ k
+    → length heard ≡ 4096
+    → heardFault (pathsOf t) heard ≡ none
+    → AllAccepted t heard calls
+    → run (pathsOf t) heard (pairsOf calls) .rounds ≡ rounds
+    → report t .hops ≡ hops
+    → pathShown (rowOf t v) ≡ shown
+    → Example t heard v k calls rounds hops shown
+example small most accepted stage long fine each counted longest path =
+    record {
+      given = record {
+        table = accepted;
+        row = record { vertex = small; stage = stage; counted = most };
+        state = record { long = long; fine = fine };
+        each = each;
+      };
+      counted = counted;
+      longest = longest;
+      path = path;
+    }
+
 -- Everything that is found by computing.
 pub record Computed : Type 0 where
   -- router 3 of table 7, stage 3 with no path, six rounds from zeros and from the leftover
-  pub ofZeros : Example seventh zeros 3 3 sixRounds 6 2 []
-  pub ofLeftover : Example seventh leftover 3 3 sixRounds 6 2 []
+  pub ofZeros : Example table7Bytes zeros 3 3 sixRounds 6 2 []
+  pub ofLeftover : Example table7Bytes leftover 3 3 sixRounds 6 2 []
   -- it has (3 2 0) in the leftover, and none after the six rounds
-  pub leftoverChoice : choice (pathsOf seventh) leftover 3 ≡ 3 ∷ 2 ∷ 0 ∷ []
-  pub settledChoice : choice (pathsOf seventh) (heardAfter seventh leftover sixRounds) 3 ≡ []
+  pub leftoverChoice : choice (pathsOf table7Bytes) leftover 3 ≡ 3 ∷ 2 ∷ 0 ∷ []
+  pub settledChoice : choice (pathsOf table7Bytes) (heardAfter table7Bytes leftover sixRounds) 3 ≡ []
   -- the two runs answer one round and four, where the whole has six
-  pub answered : roundsAnswered seventh zeros sixRounds ≡ 5
-  -- after two rounds it is not yet right
-  pub ofTwo : Example seventh zeros 3 3 twoRounds 2 2 []
-  pub twoChoice : choice (pathsOf seventh) (heardAfter seventh zeros twoRounds) 3 ≡ 3 ∷ 2 ∷ 0 ∷ []
+  pub answered : roundsAnswered table7Bytes zeros sixRounds ≡ 5
+  -- the verdict on table 7 is complete
+  pub allSettled : verdictOf (report table7Bytes .ringLength) ≡ complete
+  -- after two rounds router 3 is not yet right
+  pub ofTwo : Example table7Bytes zeros 3 3 twoRounds 2 2 []
+  pub twoChoice : choice (pathsOf table7Bytes) (heardAfter table7Bytes zeros twoRounds) 3 ≡ 3 ∷ 2 ∷ 0 ∷ []
   -- with no round at all router 1 of table 2, stage 1, is not right
-  pub ofNone : Example second zeros 1 1 [] 0 1 (1 ∷ 0 ∷ [])
-  pub noneChoice : choice (pathsOf second) (heardAfter second zeros []) 1 ≡ []
-  pub onePair : allPairs second ≡ 64 ∷ []
+  pub ofNone : Example table2Bytes zeros 1 1 [] 0 1 (1 ∷ 0 ∷ [])
+  pub noneChoice : choice (pathsOf table2Bytes) (heardAfter table2Bytes zeros []) 1 ≡ []
+  pub onePair : allPairs table2Bytes ≡ 64 ∷ []
 
 pub computed : Computed
 unfolding refusedIf refusedAt _orElse_ otherLength scheduleBad firstBadPair stepRefusal runRefusal heardAfterStep heardAfterRun unless outside firstFrom anyBelow
@@ -96,17 +126,18 @@ unfolding refusedIf refusedAt _orElse_ otherLength scheduleBad firstBadPair step
     extends bestGiven placeIn rankIn rowBytes row report rowAt offsetOf speaks byteFor pathFor badAt badByte heardFault lastHeard
     choice step standingOf standing movement pairsIn isUp isDown more listeningOffsets closes begun activated run
     recordBytes blockBytes tableBytes table7 callRefusal heardAfterCall pairsOfCall AllAccepted pairsOf zeros leftover slowRound times aRun sixRounds twoRounds
-    second seventh vertices pathShown heardAfter roundsAnswered roundsOfCall runNumbers
+    table2Bytes table7Bytes vertices pathShown heardAfter roundsAnswered roundsOfCall runNumbers verdictOf
 computed =
     record {
-      ofZeros = record { given = record { table = refl; row = record { vertex = omega arith; stage = refl; counted = omega arith }; state = record { long = refl; fine = refl }; each = (refl, (refl, (refl, tt))) }; counted = refl; longest = refl; path = refl };
-      ofLeftover = record { given = record { table = refl; row = record { vertex = omega arith; stage = refl; counted = omega arith }; state = record { long = refl; fine = refl }; each = (refl, (refl, (refl, tt))) }; counted = refl; longest = refl; path = refl };
+      ofZeros = example (omega arith) (omega arith) refl refl refl refl (refl, (refl, (refl, tt))) refl refl refl;
+      ofLeftover = example (omega arith) (omega arith) refl refl refl refl (refl, (refl, (refl, tt))) refl refl refl;
       leftoverChoice = refl;
       settledChoice = refl;
       answered = refl;
-      ofTwo = record { given = record { table = refl; row = record { vertex = omega arith; stage = refl; counted = omega arith }; state = record { long = refl; fine = refl }; each = (refl, tt) }; counted = refl; longest = refl; path = refl };
+      allSettled = refl;
+      ofTwo = example (omega arith) (omega arith) refl refl refl refl (refl, tt) refl refl refl;
       twoChoice = refl;
-      ofNone = record { given = record { table = refl; row = record { vertex = omega arith; stage = refl; counted = omega arith }; state = record { long = refl; fine = refl }; each = tt }; counted = refl; longest = refl; path = refl };
+      ofNone = example (omega arith) (omega arith) refl refl refl refl tt refl refl refl;
       noneChoice = refl;
       onePair = refl;
     }
@@ -126,12 +157,16 @@ settles {t} {heard} {v} {k} {calls} x =
     (subst (λ n. Contains (allPairs t) (k * n) (pairsOf calls)) (sym (x .longest)) (contained x))
 
 -- From zeros, after six rounds, router 3 of table 7 has what its row reports, for good ..
-pub from-zeros : Stays seventh (heardAfter seventh zeros sixRounds) 3
+pub from-zeros : Stays table7Bytes (heardAfter table7Bytes zeros sixRounds) 3
 from-zeros = settles (computed .ofZeros)
 
 -- .. and from the leftover as well.
-pub from-leftover : Stays seventh (heardAfter seventh leftover sixRounds) 3
+pub from-leftover : Stays table7Bytes (heardAfter table7Bytes leftover sixRounds) 3
 from-leftover = settles (computed .ofLeftover)
+
+-- What table 7's rows report is a stable assignment, so it is the only one (complete-only).
+pub table7-stable : Stable (pathsOf table7Bytes) (present table7Bytes) (reportedPaths table7Bytes)
+table7-stable = complete-stable table7Bytes (computed .ofZeros .given .table) (computed .allSettled)
 
 -- an example in which the choice is not what the row shows refutes the claim
 refuted : (pairs : List ℕ → List ℕ) (enough : ℕ → ℕ → ℕ) {t heard : List ℕ} {v k : ℕ} {calls : List Call} {rounds hops : ℕ} {shown : Path}
@@ -150,7 +185,7 @@ refuted pairs enough {t} {heard} {v} {k} {calls} x chosen e differ rounds claim 
 pub no-rounds-short : (enough : ℕ → ℕ → ℕ) → enough 1 1 ≡ 0 → Settling allPairs enough → ⊥
 no-rounds-short enough e =
     refuted allPairs enough (computed .ofNone) [] (computed .noneChoice) (λ q. omega arith)
-    (subst (λ n. Contains (allPairs second) n (pairsOf [])) (sym e) (contains-none (allPairs second) (pairsOf [])))
+    (subst (λ n. Contains (allPairs table2Bytes) n (pairsOf [])) (sym e) (contains-none (allPairs table2Bytes) (pairsOf [])))
 
 -- .. so neither is k times (L minus 1), nor (k minus 1) times L ..
 pub fewer-hops-short : Settling allPairs (λ k hops. k * (hops - 1)) → ⊥
@@ -163,7 +198,7 @@ fewer-stages-short = no-rounds-short (λ k hops. (k - 1) * hops) refl
 pub two-rounds-short : (enough : ℕ → ℕ → ℕ) → enough 3 2 ≤ 2 → Settling allPairs enough → ⊥
 two-rounds-short enough h =
     refuted allPairs enough (computed .ofTwo) (3 ∷ 2 ∷ 0 ∷ []) (computed .twoChoice) (λ q. omega arith)
-    (contains-fewer (allPairs seventh) (enough 3 2) 2 (pairsOf twoRounds) h (contained (computed .ofTwo)))
+    (contains-fewer (allPairs table7Bytes) (enough 3 2) 2 (pairsOf twoRounds) h (contained (computed .ofTwo)))
 
 -- of no pairs every schedule contains as many rounds as one likes
 rounds-of-nothing : (n : ℕ) → Contains [] n (pairsOf [])
