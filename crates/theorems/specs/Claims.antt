@@ -1,15 +1,17 @@
 -- What the theorems speak of, over the bytes of a table, its rows, heard states and schedules: calls one after the other, what a row
--- reports, and what is claimed of a settled vertex.
+-- reports, what is claimed of a settled vertex, and heard states in which the machine rests.
 use Prim.{Unit}
-use Prim.Native.Nat.{ℕ, pred, _+_, _<_, _≤_}
+use Prim.Native.Nat.{ℕ, pred, _+_, _*_, _%_, _<_, _≤_}
 use mathlib.Core.Path.{_≡_}
+use mathlib.Core.Bool.{true, false}
 use mathlib.Core.List.{List, [], _∷_, _++_}
 use mathlib.Core.Option.{Option, none}
 use lib.ListN.{length, getD, take}
 use lib.IntN.{ℤ}
-use Rattle.rules.specs.Table.{Path, pathsOf}
+use Rattle.lists.specs.Fill.{tabulate}
+use Rattle.rules.specs.Table.{Path, pathsOf, listens, listensAt}
 use Rattle.rules.specs.Report.{rankIn, rowAt, pathShown, report}
-use Rattle.rules.specs.Machine.{Pair, heardFault, choice}
+use Rattle.rules.specs.Machine.{Pair, byteFor, heardFault, choice}
 use Rattle.rules.specs.Run.{pairsIn, run}
 use Rattle.rules.specs.Refusals.{Refusal, refusal}
 use Rattle.rules.specs.Answers.{stepRefusal, heardAfterStep, runRefusal, runNumbers, heardAfterRun}
@@ -97,3 +99,25 @@ pub record Stays (t heard : List ℕ) (v : ℕ) : Type 0 where
       → AllAccepted t heard later
       → (n : ℕ)
       → AsReported t v (choice (pathsOf t) (heardAfterPairs t heard later n) v)
+
+-- Every listening pair holds, as a byte, what is given of its speaker.
+abbrev pub Holding : List ℕ → List ℕ → (ℕ → Path) → Type 0
+Holding t heard given =
+    (v u : ℕ) → listens (pathsOf t) v u ≡ true → getD heard (64 * v + u) 0 ≡ byteFor (pathsOf t) u (given u)
+
+-- Every heard byte at a listening pair is the speaker's present choice.
+abbrev pub Resting : List ℕ → List ℕ → Type 0
+Resting t heard = Holding t heard (choice (pathsOf t) heard)
+
+-- A valid heard state that no step changes, be it accepted or refused.
+pub record Rests (t heard : List ℕ) : Type 0 where
+  pub valid : Valid t heard
+  pub unchanged : (p : Pair) → heardAfterStep t heard p ≡ heard
+
+-- The heard state that stores an assignment: at every listening pair what is assigned to the speaker, and nothing elsewhere.
+unfoldable pub storedByte : List ℕ → (ℕ → Path) → ℕ → ℕ
+storedByte t assigned k =
+    elim (listensAt (pathsOf t) k) [ true ↦ byteFor (pathsOf t) (k % 64) (assigned (k % 64)) | false ↦ 0 ]
+
+unfoldable pub storing : List ℕ → (ℕ → Path) → List ℕ
+storing t assigned = tabulate (storedByte t assigned) 4096

@@ -15,16 +15,16 @@ use Rattle.rules.specs.Refusals.{refusal}
 use Rattle.rules.specs.Answers.{complete, verdictOf}
 use Rattle.rules.specs.ShapeLaws.{shaped, path-longest}
 use Rattle.rules.specs.RingLaws.{final}
-use Rattle.theorems.specs.Claims.{Call, AllAccepted, heardAfter, pairsOf, Valid}
+use Rattle.theorems.specs.Claims.{Call, AllAccepted, heardAfter, pairsOf, Valid, storing}
 use Rattle.theorems.specs.LastingLaws.{range-none}
 use Rattle.theorems.specs.StageLaws.{stages-heard}
 use Rattle.theorems.specs.CallLaws.{all-range, all-after, all-valid}
 use Rattle.theorems.specs.Settling.{allPairs}
 use Rattle.theorems.specs.StableAssignments.{reportedPaths, none-stuck, reported-settled}
-use Rattle.theorems.specs.RestingPoints.{storing, stored-everywhere, speaker-present}
+use Rattle.theorems.specs.StoringLaws.{speaker-present, holding-stored}
 
 -- After s times L rounds and one more, from every valid heard state and by whatever accepted calls, the heard state is the one that stores
--- the paths of the report; no step changes it (storing-rests, resting-unchanged).
+-- the paths of the report; no step changes it (stable-rests).
 pub complete-ends : (t heard : List ℕ) (calls : List Call)
     → refusal t ≡ none
     → verdictOf (report t .ringLength) ≡ complete
@@ -35,7 +35,7 @@ pub complete-ends : (t heard : List ℕ) (calls : List Call)
 unfolding report foldLeft
 complete-ends t heard calls accepted done valid a rounds =
     let paths = pathsOf t in
-    stored-everywhere t accepted (heardAfter t heard calls) (reportedPaths t) (all-valid t accepted calls heard valid a)
+    holding-stored t accepted (heardAfter t heard calls) (reportedPaths t) (all-valid t accepted calls heard valid a)
     (λ v u l. by-option (final paths (present t) u)
     (λ w. absurd (none-stuck t accepted done u (speaker-present t accepted v u l) w))
     (λ p e. let held = stages-heard paths (present t) (shaped t accepted) (longest t) (path-longest t accepted) (stageCount paths (present t)) heard
