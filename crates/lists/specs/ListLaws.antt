@@ -1,4 +1,4 @@
--- Laws of the elements of a list: whether any passes, the first that does, which numbers stand in it, which twice, and what same lists are.
+-- Laws of the elements of a list: its fronts, whether any passes, the first that does, which numbers stand in it, which twice, and what same lists are.
 use mathlib.Core.Path.{_≡_, refl, sym, ap, _∙_}
 use mathlib.Core.Logic.{⊎-elim}
 use mathlib.Core.Bool.{Bool, true, false, _||_, or-assoc, or-false}
@@ -8,8 +8,8 @@ use Prim.Native.Nat.{ℕ, zero, suc, _+_, _<_, _≤_}
 use native.Mathlib.Omega.{arith}
 use native.Mathlib.Nat.{not-suc-le-zero}
 use native.Mathlib.Numerals.{add-one}
-use lib.ListN.{length, getD, take, drop, drop-of-length-le, length-take}
-use lib.Seq.{drop-cons, take-suc, take-all, getD-take}
+use lib.ListN.{length, getD, take, drop, drop-of-length-le, length-take, take-append-drop}
+use lib.Seq.{drop-cons, take-suc, take-all, take-at, drop-at, take-append-le, drop-append-le, getD-take}
 use lib.Dec.{eqb}
 use borrow.Author.Tests.{eqb-true, eqb-false, eq-eqb, ne-eqb}
 use Rattle.lists.specs.Search.{anyIn, firstIn, elem, same, twice}
@@ -20,6 +20,18 @@ pub getD-within : {A : Type 0} (l : List A) (i : ℕ) (d e : A) → i < length l
 getD-within [] i d e h = absurd (not-suc-le-zero h)
 getD-within (x ∷ xs) zero d e h = refl
 getD-within (x ∷ xs) (suc i) d e h = getD-within xs i d e (omega arith)
+
+-- of one list cut at two places, the shorter front begins the longer one
+pub front-of : {A : Type 0} (s t b x : List A)
+    → s ++ t ≡ b ++ x
+    → length s ≤ length b
+    → (b ≡ s ++ drop (length s) b) × (t ≡ drop (length s) b ++ x)
+front-of {A} s t b x e h =
+    let k = length s in
+    let front : s ≡ take k b = sym (take-at s t k refl) ∙ ap (take k) e ∙ take-append-le k b x h in (
+      sym (take-append-drop k b) ∙ ap (λ (l : List A). l ++ drop k b) (sym front),
+      sym (drop-at s t k refl) ∙ ap (drop k) e ∙ drop-append-le k b x h,
+    )
 
 -- whether some element passes
 

@@ -2,17 +2,17 @@
 -- schedules one after the other.
 use Prim.{tt}
 use Prim.Native.Nat.{ℕ, zero, suc, _+_, _-_, _<_, _≤_}
-use mathlib.Core.Path.{_≡_, refl, sym, ap, _∙_}
+use mathlib.Core.Path.{_≡_, refl, sym, ap, _∙_, subst}
 use mathlib.Core.Logic.{_≢_, _⊎_, inl, inr, ⊎-elim, ⊎-map}
 use mathlib.Core.Bool.{Bool, true, false, not, _&&_, _||_}
 use mathlib.Core.List.{List, [], _∷_, _++_, map, map-append, append-nil, append-assoc}
 use native.Mathlib.Omega.{arith}
-use lib.ListN.{length, getD}
+use lib.ListN.{length, getD, drop}
 use borrow.Author.Tests.{eqb-false, not-true, not-false}
 use lib.Dec.{eqb}
 use Rattle.lists.specs.Search.{anyIn, countBelow, elem, thoseBelow}
-use Rattle.lists.specs.Tests.{true≢, by-test, or-left, or-right, or-cases}
-use Rattle.lists.specs.ListLaws.{none-at, some-at, elem-nil, elem-cons, elem-at, elem-place, elem-more}
+use Rattle.lists.specs.Tests.{true≢, by-test, by-less, or-left, or-right, or-cases}
+use Rattle.lists.specs.ListLaws.{front-of, none-at, some-at, elem-nil, elem-cons, elem-at, elem-place, elem-more}
 use Rattle.lists.specs.SearchLaws.{any-below, those-count, count-any}
 use Rattle.lists.specs.RangeLaws.{any-those}
 use Rattle.lists.specs.Fold.{foldLeft}
@@ -321,3 +321,59 @@ rounds-add paths heard later s t = go (listeningOffsets paths) refl
         rounds-greatest paths heard (s ++ t) (λ z. omega (arith, ap length (sym e ∙ z))) (run paths heard s .rounds + run paths later t .rounds)
         (contains-add (listeningOffsets paths) (run paths heard s .rounds) (run paths later t .rounds) s t (rounds-contained paths heard s)
         (rounds-contained paths later t))
+
+-- A schedule with n rounds, cut in two, has at least n - 1 in its parts: the cut breaks one round at most.
+pub record Cut (pairs : List ℕ) (n : ℕ) (s t : List Pair) : Type 0 where
+  pub early : ℕ
+  pub late : ℕ
+  pub front : Contains pairs early s
+  pub back : Contains pairs late t
+  pub enough : n ≤ suc (early + late)
+
+pub contains-cut : (pairs : List ℕ) (n : ℕ) (s t : List Pair) → Contains pairs n (s ++ t) → Cut pairs n s t
+contains-cut pairs zero s t c =
+    record { early = 0; late = 0; front = contains-none pairs s; back = contains-none pairs t; enough = omega arith }
+contains-cut pairs (suc n) s t c =
+    let l = contains-last pairs n (s ++ t) c in
+    let rest = l .stretch ++ l .after in
+    let parts : s ++ t ≡ l .before ++ rest = l .parts ∙ append-assoc (l .before) (l .stretch) (l .after) in
+    by-less (length (l .before)) (length s)
+    (λ h. let f = front-of (l .before) rest s t (sym parts) (omega arith) in
+    record {
+      early = n;
+      late = 0;
+      front = subst (Contains pairs n) (sym (f .0)) (contains-behind pairs n (l .before) (drop (length (l .before)) s) (l .earlier));
+      back = contains-none pairs t;
+      enough = omega arith;
+    })
+    (λ h. let f = front-of s t (l .before) rest parts h in
+    let between = drop (length s) (l .before) in
+    let r = contains-cut pairs n s between (subst (Contains pairs n) (f .0) (l .earlier)) in
+    record {
+      early = r .early;
+      late = suc (r .late);
+      front = r .front;
+      back = subst (Contains pairs (suc (r .late))) (append-assoc between (l .stretch) (l .after) ∙ sym (f .1))
+          (contains-behind pairs (suc (r .late)) (between ++ l .stretch) (l .after)
+          (contains-more pairs (r .late) between (l .stretch) (r .back) (l .covered)));
+      enough = omega (arith, r .enough);
+    })
+
+-- So one run over the whole counts at most one round more than two runs one after the other.
+pub rounds-lost : (paths : ℕ → List Path) (heard later : List ℕ) (s t : List Pair)
+    → run paths heard (s ++ t) .rounds ≤ suc (run paths heard s .rounds + run paths later t .rounds)
+rounds-lost paths heard later s t = go (listeningOffsets paths) refl
+  where
+    go : (pairs : List ℕ)
+        → listeningOffsets paths ≡ pairs
+        → run paths heard (s ++ t) .rounds ≤ suc (run paths heard s .rounds + run paths later t .rounds)
+    go [] e = omega (arith, rounds-none paths heard (s ++ t) e)
+    go (k ∷ ks) e =
+        let nonempty : listeningOffsets paths ≢ [] = λ z. omega (arith, ap length (sym e ∙ z)) in
+        let c = contains-cut (listeningOffsets paths) (run paths heard (s ++ t) .rounds) s t (rounds-contained paths heard (s ++ t)) in
+        omega (
+          arith,
+          c .enough,
+          rounds-greatest paths heard s nonempty (c .early) (c .front),
+          rounds-greatest paths later t nonempty (c .late) (c .back),
+        )
