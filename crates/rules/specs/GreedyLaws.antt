@@ -169,6 +169,11 @@ module _ (paths : ℕ → List Path) (present : ℕ → Bool) where
           let r = newly-judged k v p h e in
           record { at = k; before = omega arith; new = h; here = r .0; judgement = r .1 }
 
+  -- at the start nobody is settled but vertex 0, with (0)
+  pub settled-first : (v : ℕ) (p : Path) → settled paths present 0 v ≡ some p → (v ≡ 0) × (p ≡ 0 ∷ [])
+  settled-first v p e =
+      by-equal v 0 (λ z. (z, origin-path 0 v p z e)) (λ z. absurd (omega (arith, entered 0 v p z e .before)))
+
   -- it settles with what was then its best compatible path
   pub entered-best : {k v : ℕ} {p : Path} (r : Entry k v p) → p ≡ best paths (settled paths present (r .at)) v
   entered-best r = judged-path _ _ _ (r .judgement)

@@ -275,6 +275,14 @@ module _ (paths : ℕ → List Path) (present : ℕ → Bool) (shaped : Shaped p
             apart = λ z. twice-apart (getD (paths v) k []) (q .simple) 0 1 (omega arith) (q .long) (q .owner ∙ z ∙ sym n);
           }
 
+  -- a vertex that is listened to is present
+  pub speaker-present : (v u : ℕ) → listens paths v u ≡ true → present u ≡ true
+  unfolding listens nextHop
+  speaker-present v u e =
+      let r = some-at (λ p. eqb (nextHop p) u) (paths v) [] e in
+      let q = shaped .permitted v (r .0) (r .1) in
+      rw (eqb-true (nextHop (getD (paths v) (r .0) [])) u (r .2)) at (q .named 1 (q .long))
+
   -- an accepted step keeps the state valid
   pub step-valid : (heard : List ℕ) (p : Pair)
       → heardFault paths heard ≡ none

@@ -246,7 +246,7 @@ module _ (paths : ℕ → List Path) where
       }
 
 -- a schedule's pair where there is none
-abbrev noPair : Pair
+abbrev pub noPair : Pair
 noPair = record { listener = 0; speaker = 0 }
 
 module _ (paths : ℕ → List Path) (present : ℕ → Bool) (shaped : Shaped paths present) where

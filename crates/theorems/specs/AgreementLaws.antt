@@ -8,15 +8,15 @@ use mathlib.Core.List.{List, [], _∷_}
 use mathlib.Core.Option.{none, some}
 use native.Mathlib.Omega.{arith}
 use lib.ListN.{length, getD}
-use Rattle.lists.specs.Tests.{true≢, by-equal, by-option, none≢some}
-use Rattle.lists.specs.ListLaws.{same-refl, same-eq, differ}
+use Rattle.lists.specs.Tests.{true≢, by-equal, by-option}
+use Rattle.lists.specs.ListLaws.{same-eq, differ}
 use Rattle.rules.specs.Table.{Path, nextHop, rest}
 use Rattle.rules.specs.Greedy.{Settled, compatible, best, judged, settled}
 use Rattle.rules.specs.Stable.{Stable, extends, bestGiven}
 use Rattle.rules.specs.Shape.{Permitted, Shaped}
 use Rattle.rules.specs.PathLaws.{Stands, first-taken}
-use Rattle.rules.specs.GreedyLaws.{compatible-settled, Entry, is-some, stands-permitted, judged-next, settled-later, settled-once, settled-origin, origin-path, newly-judged, entered, entered-best}
-use Rattle.theorems.specs.EnteringLaws.{rest-shorter, settled-compatible, compatible-rest, rest-settled, entering}
+use Rattle.rules.specs.GreedyLaws.{settled-first, Entry, is-some, stands-permitted, judged-next, settled-later, settled-once, settled-origin, newly-judged, entered, entered-best}
+use Rattle.theorems.specs.EnteringLaws.{origin-compatible, waiting-other, rest-shorter, settled-compatible, compatible-rest, rest-settled, entering}
 
 module _ (paths : ℕ → List Path) (present : ℕ → Bool) (shaped : Shaped paths present) (assigned : ℕ → Path) where
   -- Each path that is assigned is permitted, and is its owner followed by what is assigned to its next hop.
@@ -38,10 +38,9 @@ module _ (paths : ℕ → List Path) (present : ℕ → Bool) (shaped : Shaped p
         → compatible S (assigned v) ≡ true
     by-owner v e f waiting =
         by-equal v 0
-        (λ z. ap (λ (u : ℕ). compatible S (assigned u)) z ∙ ap (compatible S) (c .destination)
-        ∙ compatible-settled S 0 [] (0 ∷ []) origin ∙ same-refl (0 ∷ []))
+        (λ z. origin-compatible present S origin (assigned v) (ap assigned z ∙ c .destination))
         (λ z. by-option (S v) (waiting z)
-        (λ q w. settled-compatible paths present shaped S v (assigned v) q (c .permitted v z e f) w (agrees v q w)))
+        (λ q w. settled-compatible present S v (assigned v) q (c .permitted v z e f) w (agrees v q w)))
 
     -- then every path that is assigned is compatible
     assigned-compatible : (n v : ℕ) → present v ≡ true → length (assigned v) ≤ n → assigned v ≢ [] → compatible S (assigned v) ≡ true
@@ -53,7 +52,7 @@ module _ (paths : ℕ → List Path) (present : ℕ → Bool) (shaped : Shaped p
         let r = c .permitted v z e f in
         let on = c .chained v z e f in
         let shorter = rest-shorter p (omega (arith, r .long)) in
-        compatible-rest paths present shaped S v p r w ∙ ap (compatible S) on
+        compatible-rest present S v p r w ∙ ap (compatible S) on
         ∙ assigned-compatible n (nextHop p) (r .named 1 (r .long)) (omega (arith, shorter, ap length on))
         (λ x. omega (arith, r .long, shorter, ap length on, ap length x)))
 
@@ -69,7 +68,7 @@ module _ (paths : ℕ → List Path) (present : ℕ → Bool) (shaped : Shaped p
         (λ x. true≢
         (assigned-compatible (length (assigned (nextHop q))) (nextHop q) (r .named 1 (r .long)) (omega arith)
         (λ y. omega (arith, r .long, shorter, ap length x, ap length y)))
-        (ap (compatible S) (sym x) ∙ sym (compatible-rest paths present shaped S v q r w) ∙ e)))
+        (ap (compatible S) (sym x) ∙ sym (compatible-rest present S v q r w) ∙ e)))
         (λ u q l e. agrees u q e)
 
   -- a stable assignment is such a one
@@ -92,13 +91,13 @@ module _ (paths : ℕ → List Path) (present : ℕ → Bool) (shaped : Shaped p
   -- it agrees with what is settled after k stages
   pub stable-agrees : Stable paths present assigned → (k : ℕ) → Agrees (settled paths present k)
   stable-agrees stable zero v p e =
-      by-equal v 0 (λ z. ap assigned z ∙ stable .destination ∙ sym (origin-path paths present 0 v p z e)) (λ z. absurd (omega (arith, entered paths present 0 v p z e .before)))
+      let first = settled-first paths present v p e in ap assigned (first .0) ∙ stable .destination ∙ sym (first .1)
   stable-agrees stable (suc k) v p e =
       by-option (settled paths present k v)
       (λ w. let r = newly-judged paths present k v p w e in
       let S = settled paths present k in
       let origin = settled-origin paths present k in
-      stable .others v (λ z. none≢some w (ap S z ∙ origin)) (r .0)
+      stable .others v (waiting-other present S origin v w) (r .0)
       ∙ assigned-entering (stable-chained stable) S origin (stable-agrees stable k) v p w (r .1))
       (λ q w. stable-agrees stable k v q w ∙ settled-once paths present k (suc k) v q p w e)
 
@@ -127,7 +126,7 @@ module _ (paths : ℕ → List Path) (present : ℕ → Bool) (shaped : Shaped p
               let S = settled paths present (r .at) in
               ⊎-elim (λ x. absurd (f x))
               (λ x. let q = is-some (S (nextHop p)) x in
-              rest-settled paths present shaped S v p (q .0) (own v z e f) (r .new) (taken v z e f .1) (q .1)
+              rest-settled present S v p (q .0) (own v z e f) (r .new) (taken v z e f .1) (q .1)
               ∙ sym (agrees-earlier (r .at) (r .before) (nextHop p) (q .0) (q .1)))
               (judged-next paths present S p p (ap (judged S) (entered-best paths present r) ∙ r .judgement));
         }

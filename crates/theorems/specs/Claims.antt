@@ -1,5 +1,5 @@
 -- What the theorems speak of, over the bytes of a table, its rows, heard states and schedules: calls one after the other, what a row
--- reports, what is claimed of a settled vertex, and heard states in which the machine rests.
+-- reports, what is claimed of a settled router, and heard states in which the machine rests. A router is a vertex of the rules.
 use Prim.{Unit}
 use Prim.Native.Nat.{ℕ, pred, _+_, _*_, _%_, _<_, _≤_}
 use mathlib.Core.Path.{_≡_}
@@ -12,7 +12,7 @@ use Rattle.lists.specs.Fill.{tabulate}
 use Rattle.rules.specs.Table.{Path, pathsOf, listens, listensAt}
 use Rattle.rules.specs.Report.{rankIn, rowAt, pathShown, report}
 use Rattle.rules.specs.Machine.{Pair, byteFor, heardFault, choice}
-use Rattle.rules.specs.Run.{pairsIn, run}
+use Rattle.rules.specs.Run.{pairsIn, listeningOffsets, run}
 use Rattle.rules.specs.Refusals.{Refusal, refusal}
 use Rattle.rules.specs.Answers.{stepRefusal, heardAfterStep, runRefusal, runNumbers, heardAfterRun}
 
@@ -21,7 +21,7 @@ pub data Call : Type 0 where
   ofRun : (schedule : List ℕ) (sums : List ℤ) → Call
   ofStep : Pair → Call
 
--- its refusal, the heard state after it, the pairs that it activates, and the rounds that it answers (a step answers none)
+-- its refusal, the heard state after it, its pairs, and the rounds that it answers (a step answers none)
 
 unfoldable pub callRefusal : List ℕ → List ℕ → Call → Option Refusal
 callRefusal t heard (ofRun s sums) = runRefusal t heard s sums
@@ -54,7 +54,7 @@ unfoldable pub pairsOf : List Call → List Pair
 pairsOf [] = []
 pairsOf (c ∷ cs) = pairsOfCall c ++ pairsOf cs
 
--- .. the state after the first n of these, ..
+-- .. the state after the first n of these (pairs-none, pairs-next and pairs-all say that these are the states on the way), ..
 unfoldable pub heardAfterPairs : List ℕ → List ℕ → List Call → ℕ → List ℕ
 heardAfterPairs t heard calls n = run (pathsOf t) heard (take n (pairsOf calls)) .heard
 
@@ -62,6 +62,10 @@ heardAfterPairs t heard calls n = run (pathsOf t) heard (take n (pairsOf calls))
 unfoldable pub roundsAnswered : List ℕ → List ℕ → List Call → ℕ
 roundsAnswered t heard [] = 0
 roundsAnswered t heard (c ∷ cs) = roundsOfCall t heard c + roundsAnswered t (heardAfterCall t heard c) cs
+
+-- the listening pairs of a table, each by its offset 64v+u, of which a round leaves out none
+abbrev pub listeningPairs : List ℕ → List ℕ
+listeningPairs t = listeningOffsets (pathsOf t)
 
 -- A valid heard state.
 pub record Valid (t heard : List ℕ) : Type 0 where
@@ -72,11 +76,11 @@ pub record Valid (t heard : List ℕ) : Type 0 where
 abbrev pub rowOf : List ℕ → ℕ → List ℕ
 rowOf t v = rowAt (report t .rows) v
 
--- The row of v says stage k, "byte 0: stage; 254 absent; 255 stuck".
+-- The row of v says stage k, "byte 0: stage; 254 absent; 255 stuck": a stage is 0 to 63, so that 254 and 255 are none.
 pub record SettledAt (t : List ℕ) (v k : ℕ) : Type 0 where
   pub vertex : v < 64
   pub stage : getD (rowOf t v) 0 0 ≡ k
-  pub counted : k ≤ 63
+  pub isStage : k ≤ 63
 
 -- What is given: an accepted table, a router whose row says stage k, a valid heard state, and calls none of which is refused.
 pub record Given (t heard : List ℕ) (v k : ℕ) (calls : List Call) : Type 0 where

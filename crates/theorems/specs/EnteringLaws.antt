@@ -2,7 +2,7 @@
 -- law behind the machine's choices and the stable assignments.
 use Prim.Native.Nat.{ℕ, suc, _<_, _≤_}
 use mathlib.Core.Path.{_≡_, refl, sym, ap, _∙_}
-use mathlib.Core.Logic.{⊎-elim}
+use mathlib.Core.Logic.{_≢_, ⊎-elim}
 use mathlib.Core.Bool.{Bool, true, false}
 use mathlib.Core.List.{List, [], _∷_}
 use mathlib.Core.Option.{none, some}
@@ -11,6 +11,7 @@ use lib.ListN.{length, getD}
 use lib.Dec.{eqb}
 use borrow.Author.Tests.{eq-eqb}
 use Rattle.lists.specs.Search.{same}
+use Rattle.lists.specs.Tests.{none≢some}
 use Rattle.lists.specs.ListLaws.{any-at, same-refl, same-eq}
 use Rattle.rules.specs.Table.{Path, nextHop, rest, listens}
 use Rattle.rules.specs.Greedy.{Settled, compatible, best, judged}
@@ -44,7 +45,14 @@ next-listens paths v k h =
     let w = nextHop (getD (paths v) k []) in
     any-at (λ p. eqb (nextHop p) w) (paths v) [] k h (eq-eqb w w refl)
 
-module _ (paths : ℕ → List Path) (present : ℕ → Bool) (shaped : Shaped paths present) (S : Settled) where
+module _ (present : ℕ → Bool) (S : Settled) where
+  -- where vertex 0 is settled with (0), that path is compatible, and who waits is another vertex
+  pub origin-compatible : S 0 ≡ some (0 ∷ []) → (p : Path) → p ≡ 0 ∷ [] → compatible S p ≡ true
+  origin-compatible o p e = ap (compatible S) e ∙ compatible-settled S 0 [] (0 ∷ []) o ∙ same-refl (0 ∷ [])
+
+  pub waiting-other : S 0 ≡ some (0 ∷ []) → (v : ℕ) → S v ≡ none → v ≢ 0
+  waiting-other o v w z = none≢some w (ap S z ∙ o)
+
   -- a settled vertex's own path is compatible
   pub settled-compatible : (v : ℕ) (p q : Path) → Permitted present v p → S v ≡ some q → p ≡ q → compatible S p ≡ true
   settled-compatible v p q r e f =
@@ -68,7 +76,9 @@ module _ (paths : ℕ → List Path) (present : ℕ → Bool) (shaped : Shaped p
       w ∙ same-eq (nextHop p ∷ rest (rest p)) q
       (sym (compatible-settled S (nextHop p) (rest (rest p)) q s) ∙ ap (compatible S) (sym w) ∙ sym (compatible-rest v p r e) ∙ c)
 
-  -- v waits, and would be judged to settle with p
+-- v waits, and would be judged to settle with p
+
+module _ (paths : ℕ → List Path) (present : ℕ → Bool) (shaped : Shaped paths present) (S : Settled) where
   module _ (v : ℕ) (p : Path) (waits : S v ≡ none) (enters : judged S (best paths S v) ≡ some p) where
     -- then p is what v takes, where no incompatible path is on offer and every settled next hop offers its settled path
     pub entering : (given : ℕ → Path)
@@ -87,6 +97,6 @@ module _ (paths : ℕ → List Path) (present : ℕ → Bool) (shaped : Shaped p
             let listening : listens paths v (nextHop c) ≡ true = rw (s .there) at (next-listens paths v k (s .under)) in
             ⊎-elim (λ e. absurd (omega (arith, permitted .long, ap length e)))
             (λ e. let q = is-some (S (nextHop c)) e in
-            ap (λ (x : Path). same x (given (nextHop c))) (rest-settled v c (q .0) permitted waits f (q .1))
+            ap (λ (x : Path). same x (given (nextHop c))) (rest-settled present S v c (q .0) permitted waits f (q .1))
             ∙ ap (same (q .0)) (agrees (nextHop c) (q .0) listening (q .1)) ∙ same-refl (q .0))
             (judged-next paths present S c p j)

@@ -8,6 +8,7 @@ pub mod SettlingExamples
 -- The laws behind them: over bytes, ..
 pub mod RowLaws
 pub mod CallLaws
+pub mod SettledLaws
 pub mod StoringLaws
 -- .. and over paths, each file on the ones before it.
 pub mod EnteringLaws

@@ -1,4 +1,4 @@
--- Where the machine rests: the heard states that no step changes are exactly those that store a stable assignment.
+-- Where the machine rests: the valid heard states that no step changes are exactly those that store a stable assignment.
 use Prim.Native.Nat.{ℕ, _+_, _*_}
 use mathlib.Core.Path.{_≡_, refl, sym, ap, _∙_}
 use mathlib.Core.Logic.{_⊎_, inr}
@@ -17,21 +17,21 @@ use Rattle.rules.specs.Answers.{unless, stepRefusal, heardAfterStep}
 use Rattle.rules.specs.ShapeLaws.{shaped}
 use Rattle.rules.specs.PathLaws.{Stands, first-among}
 use Rattle.rules.specs.RunLaws.{all-listen}
-use Rattle.rules.specs.MachineLaws.{choice-destination, choice-spoken, speaks-other, speaks-destination, listening, step-here}
+use Rattle.rules.specs.MachineLaws.{speaker-present, choice-destination, choice-spoken, speaks-other, speaks-destination, listening, step-here}
 use Rattle.rules.specs.AnswerLaws.{step-admitted, step-accepted}
 use Rattle.theorems.specs.Claims.{Resting, Rests, storing}
-use Rattle.theorems.specs.StoringLaws.{speaker-present, choice-held, storing-holds, storing-valid, holding-stored}
+use Rattle.theorems.specs.StoringLaws.{choice-held, storing-holds, storing-valid, holding-stored}
+
+-- Where every heard byte at a listening pair is the speaker's present choice, no step changes a byte ..
+pub resting-unchanged : (t heard : List ℕ) → Resting t heard → (p : Pair) → heardAfterStep t heard p ≡ heard
+unfolding heardAfterStep unless step offsetOf
+resting-unchanged t heard rests p =
+    by-option (stepRefusal t heard p)
+    (λ e. let l = all-listen (pathsOf t) (p ∷ []) p (step-admitted t heard p e .listening) 0 (omega arith) in
+    rw e (ap (set heard (offsetOf p)) (sym (rests (p .listener) (p .speaker) l)) ∙ set-getD heard (offsetOf p) 0))
+    (λ r e. rw e)
 
 module _ (t : List ℕ) (accepted : refusal t ≡ none) where
-  -- Where every heard byte at a listening pair is the speaker's present choice, no step changes a byte ..
-  pub resting-unchanged : (heard : List ℕ) → Resting t heard → (p : Pair) → heardAfterStep t heard p ≡ heard
-  unfolding heardAfterStep unless step offsetOf
-  resting-unchanged heard rests p =
-      by-option (stepRefusal t heard p)
-      (λ e. let l = all-listen (pathsOf t) (p ∷ []) p (step-admitted t heard p e .listening) 0 (omega arith) in
-      rw e (ap (set heard (offsetOf p)) (sym (rests (p .listener) (p .speaker) l)) ∙ set-getD heard (offsetOf p) 0))
-      (λ r e. rw e)
-
   -- .. and where no step changes a byte of a valid state, every heard byte is the speaker's present choice.
   pub rests-resting : (heard : List ℕ) → Rests t heard → Resting t heard
   unfolding heardAfterStep unless offsetOf
@@ -74,9 +74,9 @@ module _ (t : List ℕ) (accepted : refusal t ≡ none) where
     stable-rests =
         record {
           valid = storing-valid t accepted assigned;
-          unchanged = resting-unchanged (storing t assigned)
+          unchanged = resting-unchanged t (storing t assigned)
               (λ v u l. storing-holds t accepted assigned v u l
-              ∙ ap (byteFor (pathsOf t) u) (sym (stable-choices u (speaker-present t accepted v u l))));
+              ∙ ap (byteFor (pathsOf t) u) (sym (stable-choices u (speaker-present (pathsOf t) (present t) (shaped t accepted) v u l))));
         }
 
   -- And every valid state that no step changes is the one that stores its choices.

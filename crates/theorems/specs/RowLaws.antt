@@ -65,8 +65,8 @@ module _ (t : List ℕ) (accepted : refusal t ≡ none) (v : ℕ) where
       by-option (final (pathsOf t) (present t) v)
       (λ e. absurd (by-test (present t v)
       (λ q. let mark : getD (rowOf t v) 0 0 ≡ 255 = ap (λ (x : List ℕ). getD x 0 0) part ∙ rw (q, e, row) in
-      omega (arith, s .stage, s .counted))
+      omega (arith, s .stage, s .isStage))
       (λ q. let mark : getD (rowOf t v) 0 0 ≡ 254 = ap (λ (x : List ℕ). getD x 0 0) part ∙ rw (q, row) in
-      omega (arith, s .stage, s .counted))))
+      omega (arith, s .stage, s .isStage))))
       (λ p e. let same : stageOf (pathsOf t) (present t) v ≡ k = sym (ap (λ (x : List ℕ). getD x 0 0) (row-settled p (s .vertex) e)) ∙ s .stage in
       (p, (rw same at (stage-settles (pathsOf t) (present t) v p e), reported p (s .vertex) e)))

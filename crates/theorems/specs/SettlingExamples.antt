@@ -3,7 +3,8 @@
 use Prim.{tt}
 use Prim.Native.Nat.{ℕ, zero, suc, _<_, _+_, _-_, _*_, _≤_}
 use mathlib.Core.Path.{_≡_, refl, sym, ap, _∙_, subst}
-use mathlib.Core.List.{List, [], _∷_, _++_}
+use mathlib.Core.Bool.{true}
+use mathlib.Core.List.{List, [], _∷_, _++_, map}
 use mathlib.Core.Option.{none}
 use native.Mathlib.Omega.{arith}
 use lib.ListN.{getD, length, set, replicate, drop}
@@ -23,9 +24,9 @@ use Rattle.rules.specs.Run.{pairsIn, isUp, isDown, more, listeningOffsets, clos
 use Rattle.rules.specs.Rounds.{Contains}
 use Rattle.rules.specs.Answers.{complete, verdictOf, otherLength, scheduleBad, firstBadPair, stepRefusal, runRefusal, runNumbers, heardAfterStep, heardAfterRun, unless}
 use Rattle.rules.specs.Examples.{recordBytes, blockBytes, tableBytes, table7}
-use Rattle.rules.specs.RoundLaws.{rounds-contained, contains-none, contains-more, contains-fewer}
-use Rattle.theorems.specs.Claims.{Call, ofRun, ofStep, callRefusal, heardAfterCall, pairsOfCall, roundsOfCall, AllAccepted, heardAfter, pairsOf, roundsAnswered, Given, rowOf, Stays}
-use Rattle.theorems.specs.Settling.{Settling, allPairs, settling}
+use Rattle.rules.specs.RoundLaws.{closes-all, rounds-contained, contains-none, contains-more, contains-fewer}
+use Rattle.theorems.specs.Claims.{Call, ofRun, ofStep, callRefusal, heardAfterCall, pairsOfCall, roundsOfCall, AllAccepted, heardAfter, pairsOf, roundsAnswered, listeningPairs, Given, rowOf, Stays}
+use Rattle.theorems.specs.Settling.{Settling, settling}
 use Rattle.theorems.specs.StableAssignments.{reportedPaths, complete-stable}
 
 -- Table 2 of the rules page, one direct path, and table 7, whose router 3 settles at stage 3 without a path.
@@ -63,6 +64,13 @@ sixRounds =
 unfoldable pub twoRounds : List Call
 twoRounds = aRun (times 2 slowRound) ∷ []
 
+-- Two rounds of three of the four listening pairs: (1, 0) is left out.
+unfoldable pub threePairs : List ℕ
+threePairs = 3 ∷ 2 ∷ 2 ∷ 1 ∷ 2 ∷ 0 ∷ []
+
+unfoldable pub threeTwice : List Call
+threeTwice = aRun (times 2 threePairs) ∷ []
+
 -- What is given in an example, with the numbers of rounds and hops and the path that the row shows.
 pub record Example (t heard : List ℕ) (v k : ℕ) (calls : List Call) (rounds hops : ℕ) (shown : Path) : Type 0 where
   pub given : Given t heard v k calls
@@ -87,7 +95,7 @@ example small most accepted stage long fine each counted longest path =
     record {
       given = record {
         table = accepted;
-        row = record { vertex = small; stage = stage; counted = most };
+        row = record { vertex = small; stage = stage; isStage = most };
         state = record { long = long; fine = fine };
         each = each;
       };
@@ -111,10 +119,15 @@ pub record Computed : Type 0 where
   -- after two rounds router 3 is not yet right
   pub ofTwo : Example table7Bytes zeros 3 3 twoRounds 2 2 []
   pub twoChoice : choice (pathsOf table7Bytes) (heardAfter table7Bytes zeros twoRounds) 3 ≡ 3 ∷ 2 ∷ 0 ∷ []
+  -- where (1, 0) is left out, router 1 of table 7, stage 1, is not right after two rounds of the other pairs
+  pub ofThree : Example table7Bytes zeros 1 1 threeTwice 0 2 (1 ∷ 0 ∷ [])
+  pub threeChoice : choice (pathsOf table7Bytes) (heardAfter table7Bytes zeros threeTwice) 1 ≡ []
+  pub threeParts : pairsOf threeTwice ≡ pairsIn threePairs ++ pairsIn threePairs
+  pub threeCovered : closes (drop 1 (listeningPairs table7Bytes)) (map offsetOf (pairsIn threePairs)) ≡ true
   -- with no round at all router 1 of table 2, stage 1, is not right
   pub ofNone : Example table2Bytes zeros 1 1 [] 0 1 (1 ∷ 0 ∷ [])
   pub noneChoice : choice (pathsOf table2Bytes) (heardAfter table2Bytes zeros []) 1 ≡ []
-  pub onePair : allPairs table2Bytes ≡ 64 ∷ []
+  pub onePair : listeningPairs table2Bytes ≡ 64 ∷ []
 
 pub computed : Computed
 unfolding refusedIf refusedAt _orElse_ otherLength scheduleBad firstBadPair stepRefusal runRefusal heardAfterStep heardAfterRun unless outside firstFrom anyBelow
@@ -125,7 +138,7 @@ unfolding refusedIf refusedAt _orElse_ otherLength scheduleBad firstBadPair step
     enters quiet stageCount stageOf stuckIn follows fromVertex beforeVertex closedPart lowestOf turned ringFrom
     extends bestGiven placeIn rankIn rowBytes row report rowAt offsetOf speaks byteFor pathFor badAt badByte heardFault lastHeard
     choice step standingOf standing movement pairsIn isUp isDown more listeningOffsets closes begun activated run
-    recordBytes blockBytes tableBytes table7 callRefusal heardAfterCall pairsOfCall AllAccepted pairsOf zeros leftover slowRound times aRun sixRounds twoRounds
+    recordBytes blockBytes tableBytes table7 callRefusal heardAfterCall pairsOfCall AllAccepted pairsOf zeros leftover slowRound times aRun sixRounds twoRounds threePairs threeTwice
     table2Bytes table7Bytes vertices pathShown heardAfter roundsAnswered roundsOfCall runNumbers verdictOf
 computed =
     record {
@@ -137,6 +150,10 @@ computed =
       allSettled = refl;
       ofTwo = example (omega arith) (omega arith) refl refl refl refl (refl, tt) refl refl refl;
       twoChoice = refl;
+      ofThree = example (omega arith) (omega arith) refl refl refl refl (refl, tt) refl refl refl;
+      threeChoice = refl;
+      threeParts = refl;
+      threeCovered = refl;
       ofNone = example (omega arith) (omega arith) refl refl refl refl tt refl refl refl;
       noneChoice = refl;
       onePair = refl;
@@ -145,16 +162,16 @@ computed =
 -- the rounds that one run over the whole counts are rounds that it contains
 contained : {t heard : List ℕ} {v k : ℕ} {calls : List Call} {rounds hops : ℕ} {shown : Path}
     → Example t heard v k calls rounds hops shown
-    → Contains (allPairs t) rounds (pairsOf calls)
+    → Contains (listeningPairs t) rounds (pairsOf calls)
 contained {t} {heard} {v} {k} {calls} x =
-    subst (λ n. Contains (allPairs t) n (pairsOf calls)) (x .counted) (rounds-contained (pathsOf t) heard (pairsOf calls))
+    subst (λ n. Contains (listeningPairs t) n (pairsOf calls)) (x .counted) (rounds-contained (pathsOf t) heard (pairsOf calls))
 
 settles : {t heard : List ℕ} {v k : ℕ} {calls : List Call} {hops : ℕ} {shown : Path}
     → Example t heard v k calls (k * hops) hops shown
     → Stays t (heardAfter t heard calls) v
 settles {t} {heard} {v} {k} {calls} x =
     settling t heard v k calls (x .given)
-    (subst (λ n. Contains (allPairs t) (k * n) (pairsOf calls)) (sym (x .longest)) (contained x))
+    (subst (λ n. Contains (listeningPairs t) (k * n) (pairsOf calls)) (sym (x .longest)) (contained x))
 
 -- From zeros, after six rounds, router 3 of table 7 has what its row reports, for good ..
 pub from-zeros : Stays table7Bytes (heardAfter table7Bytes zeros sixRounds) 3
@@ -182,23 +199,32 @@ refuted pairs enough {t} {heard} {v} {k} {calls} x chosen e differ rounds claim 
     differ (ap length (sym e ∙ stays .now .path ∙ x .path))
 
 -- No number of rounds that is 0 for stage 1 and one hop is enough: table 2 ..
-pub no-rounds-short : (enough : ℕ → ℕ → ℕ) → enough 1 1 ≡ 0 → Settling allPairs enough → ⊥
+pub no-rounds-short : (enough : ℕ → ℕ → ℕ) → enough 1 1 ≡ 0 → Settling listeningPairs enough → ⊥
 no-rounds-short enough e =
-    refuted allPairs enough (computed .ofNone) [] (computed .noneChoice) (λ q. omega arith)
-    (subst (λ n. Contains (allPairs table2Bytes) n (pairsOf [])) (sym e) (contains-none (allPairs table2Bytes) (pairsOf [])))
+    refuted listeningPairs enough (computed .ofNone) [] (computed .noneChoice) (λ q. omega arith)
+    (subst (λ n. Contains (listeningPairs table2Bytes) n (pairsOf [])) (sym e) (contains-none (listeningPairs table2Bytes) (pairsOf [])))
 
 -- .. so neither is k times (L minus 1), nor (k minus 1) times L ..
-pub fewer-hops-short : Settling allPairs (λ k hops. k * (hops - 1)) → ⊥
+pub fewer-hops-short : Settling listeningPairs (λ k hops. k * (hops - 1)) → ⊥
 fewer-hops-short = no-rounds-short (λ k hops. k * (hops - 1)) refl
 
-pub fewer-stages-short : Settling allPairs (λ k hops. (k - 1) * hops) → ⊥
+pub fewer-stages-short : Settling listeningPairs (λ k hops. (k - 1) * hops) → ⊥
 fewer-stages-short = no-rounds-short (λ k hops. (k - 1) * hops) refl
 
 -- .. nor any number that is at most 2 for stage 3 and two hops: table 7.
-pub two-rounds-short : (enough : ℕ → ℕ → ℕ) → enough 3 2 ≤ 2 → Settling allPairs enough → ⊥
+pub two-rounds-short : (enough : ℕ → ℕ → ℕ) → enough 3 2 ≤ 2 → Settling listeningPairs enough → ⊥
 two-rounds-short enough h =
-    refuted allPairs enough (computed .ofTwo) (3 ∷ 2 ∷ 0 ∷ []) (computed .twoChoice) (λ q. omega arith)
-    (contains-fewer (allPairs table7Bytes) (enough 3 2) 2 (pairsOf twoRounds) h (contained (computed .ofTwo)))
+    refuted listeningPairs enough (computed .ofTwo) (3 ∷ 2 ∷ 0 ∷ []) (computed .twoChoice) (λ q. omega arith)
+    (contains-fewer (listeningPairs table7Bytes) (enough 3 2) 2 (pairsOf twoRounds) h (contained (computed .ofTwo)))
+
+-- Rounds that leave out one listening pair are not enough: table 7 without (1, 0) ..
+pub three-pairs-short : Settling (λ t. drop 1 (listeningPairs t)) (λ k hops. k * hops) → ⊥
+three-pairs-short =
+    let pairs = drop 1 (listeningPairs table7Bytes) in
+    let round = pairsIn threePairs in
+    let covers = closes-all pairs (map offsetOf round) (computed .threeCovered) in
+    refuted (λ t. drop 1 (listeningPairs t)) (λ k hops. k * hops) (computed .ofThree) [] (computed .threeChoice) (λ q. omega arith)
+    (rw (computed .threeParts) (contains-more pairs 1 round round (contains-more pairs 0 [] round (contains-none pairs []) covers) covers))
 
 -- of no pairs every schedule contains as many rounds as one likes
 rounds-of-nothing : (n : ℕ) → Contains [] n (pairsOf [])
@@ -206,8 +232,8 @@ unfolding pairsOf
 rounds-of-nothing zero = contains-none [] []
 rounds-of-nothing (suc n) = contains-more [] n [] [] (rounds-of-nothing n) (λ k e. absurd (true≢ e (elem-nil k)))
 
--- Rounds that may leave out one listening pair are not enough, however many they are.
-pub some-pairs-short : (enough : ℕ → ℕ → ℕ) → Settling (λ t. drop 1 (allPairs t)) enough → ⊥
+-- .. and however many they are: table 2.
+pub some-pairs-short : (enough : ℕ → ℕ → ℕ) → Settling (λ t. drop 1 (listeningPairs t)) enough → ⊥
 some-pairs-short enough =
-    refuted (λ t. drop 1 (allPairs t)) enough (computed .ofNone) [] (computed .noneChoice) (λ q. omega arith)
+    refuted (λ t. drop 1 (listeningPairs t)) enough (computed .ofNone) [] (computed .noneChoice) (λ q. omega arith)
     (rw (computed .onePair) (rounds-of-nothing (enough 1 1)))

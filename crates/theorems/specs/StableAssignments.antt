@@ -42,6 +42,10 @@ module _ (t : List ℕ) (accepted : refusal t ≡ none) where
       let told = row-tells t accepted v k row in
       subst (AsReported t v) (sym (stable-agrees (pathsOf t) (present t) (shaped t accepted) assigned stable k v (told .0) (told .1 .0))) (told .1 .1)
 
+  -- the rows report what is settled in the end
+  pub reported-settled : (v : ℕ) (p : Path) → final (pathsOf t) (present t) v ≡ some p → reportedPaths t v ≡ p
+  reported-settled v p e = sym (reported t accepted v p (settled-range (pathsOf t) (present t) (stageCount (pathsOf t) (present t)) v p e) e .path)
+
   module _ (done : verdictOf (report t .ringLength) ≡ complete) where
     -- where the verdict is complete, nobody is stuck
     pub none-stuck : (v : ℕ) → present t v ≡ true → final (pathsOf t) (present t) v ≢ none
@@ -49,9 +53,6 @@ module _ (t : List ℕ) (accepted : refusal t ≡ none) where
     none-stuck v here waits =
         let stuck : isStuck (pathsOf t) (present t) v ≡ true = rw (here, waits, isSettled) in
         omega (arith, report-ring t (shaped t accepted) v stuck, complete-empty (report t .ringLength) done)
-
-    pub reported-settled : (v : ℕ) (p : Path) → final (pathsOf t) (present t) v ≡ some p → reportedPaths t v ≡ p
-    reported-settled v p e = sym (reported t accepted v p (settled-range (pathsOf t) (present t) (stageCount (pathsOf t) (present t)) v p e) e .path)
 
     -- Where the verdict is complete, the report is a stable assignment ..
     pub complete-stable : Stable (pathsOf t) (present t) (reportedPaths t)

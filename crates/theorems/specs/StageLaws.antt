@@ -11,8 +11,8 @@ use native.Mathlib.Nat.{suc-mul}
 use lib.ListN.{length, getD}
 use lib.Dec.{eqb}
 use Rattle.lists.specs.Search.{same}
-use Rattle.lists.specs.Tests.{true≢, by-equal, by-option, none≢some}
-use Rattle.lists.specs.ListLaws.{same-refl, differ, some-at}
+use Rattle.lists.specs.Tests.{true≢, by-equal, by-option}
+use Rattle.lists.specs.ListLaws.{differ, some-at}
 use Rattle.lists.specs.FoldLaws.{fold-append}
 use Rattle.rules.specs.Table.{Path, nextHop, rest, first, listens}
 use Rattle.rules.specs.Greedy.{Settled, compatible, best, judged, settled}
@@ -22,14 +22,18 @@ use Rattle.rules.specs.Run.{listeningOffsets}
 use Rattle.rules.specs.Rounds.{Contains}
 use Rattle.rules.specs.Shape.{Shaped}
 use Rattle.rules.specs.PathLaws.{Stands, first-taken}
-use Rattle.rules.specs.GreedyLaws.{compatible-settled, stands-permitted, settled-origin, origin-path, settled-once, newly-judged, entered}
+use Rattle.rules.specs.GreedyLaws.{stands-permitted, settled-origin, settled-first, settled-once, newly-judged}
 use Rattle.rules.specs.MachineLaws.{choice-destination, choice-other}
 use Rattle.rules.specs.RoundLaws.{contains-split}
 use Rattle.theorems.specs.LastingLaws.{InRange, range-parts, after, after-length, Lasting, lasting-later}
 use Rattle.theorems.specs.HearingLaws.{byte-after, heard-after}
-use Rattle.theorems.specs.EnteringLaws.{rest-shorter, settled-compatible, compatible-rest, next-listens, entering}
+use Rattle.theorems.specs.EnteringLaws.{origin-compatible, waiting-other, rest-shorter, settled-compatible, compatible-rest, next-listens, entering}
 
 module _ (paths : ℕ → List Path) (present : ℕ → Bool) (shaped : Shaped paths present) where
+  -- no path has more than so many hops
+  abbrev pub Short : ℕ → Type 0
+  Short hops = (v k : ℕ) → k < length (paths v) → length (getD (paths v) k []) ≤ suc hops
+
   module _ (S : Settled) (origin : S 0 ≡ some (0 ∷ [])) where
     -- what is settled is chosen, from here on
     abbrev pub Holds : List ℕ → Type 0
@@ -58,7 +62,7 @@ module _ (paths : ℕ → List Path) (present : ℕ → Bool) (shaped : Shaped p
     avoids-from n heard holds shut u p ne short bad s r e =
         by-equal u 0
         (λ z. let q : p ≡ 0 ∷ [] = sym e ∙ ap (choice paths (after paths heard s)) z ∙ choice-destination paths (after paths heard s) in
-        true≢ (ap (compatible S) q ∙ compatible-settled S 0 [] (0 ∷ []) origin ∙ same-refl (0 ∷ [])) bad)
+        true≢ (origin-compatible present S origin p q) bad)
         (λ z. let now = after paths heard s in
         let taken = first-taken (extends (lastHeard paths now u)) (paths u) p ne (sym (choice-other paths now u z) ∙ e) in owned (taken .0) (taken .1))
       where
@@ -69,7 +73,7 @@ module _ (paths : ℕ → List Path) (present : ℕ → Bool) (shaped : Shaped p
             (λ w. true≢ offered
             (rw (t .there) at (shut u k (t .under) w (rw (t .there) bad) (rw (t .there) short) s r)))
             (λ q w. true≢
-            (settled-compatible paths present shaped S u p q (stands-permitted paths present shaped u p t) w (sym e ∙ holds u q w s r)) bad)
+            (settled-compatible present S u p q (stands-permitted paths present shaped u p t) w (sym e ∙ holds u q w s r)) bad)
 
     -- n rounds withdraw the paths of n hops
     withdrawn-rounds : (n : ℕ) (heard : List ℕ) (s : List Pair)
@@ -87,11 +91,11 @@ module _ (paths : ℕ → List Path) (present : ℕ → Bool) (shaped : Shaped p
         let unheard = heard-after paths present shaped v (nextHop p) (next-listens paths v k h) n heard s m r c (λ x. x ≢ rest p)
         (λ before i d. avoids-from (suc n) (after paths heard before) (holds-later heard before i holds)
         (withdrawn-rounds n heard before m i holds d) (nextHop p) (rest p) (λ x. omega (arith, permitted .long, shorter, ap length x))
-        (omega (arith, shorter)) (sym (compatible-rest paths present shaped S v p permitted w) ∙ e)) in
+        (omega (arith, shorter)) (sym (compatible-rest present S v p permitted w) ∙ e)) in
         differ (rest p) (lastHeard paths (after paths (after paths heard s) t) v (nextHop p)) (λ x. unheard t q (sym x))
 
     -- so after as many rounds as the longest path has hops, a vertex that would be judged to settle with p chooses p for good
-    module _ (hops : ℕ) (short : (v k : ℕ) → k < length (paths v) → length (getD (paths v) k []) ≤ suc hops) where
+    module _ (hops : ℕ) (short : Short hops) where
       enters-rounds : (v : ℕ) (p : Path) (heard : List ℕ) (s : List Pair)
           → S v ≡ none
           → judged S (best paths S v) ≡ some p
@@ -103,14 +107,14 @@ module _ (paths : ℕ → List Path) (present : ℕ → Bool) (shaped : Shaped p
       unfolding listens
       enters-rounds v p heard s w j m r holds c t q =
           let now = after paths (after paths heard s) t in
-          choice-other paths now v (λ z. none≢some w (ap S z ∙ origin))
+          choice-other paths now v (waiting-other present S origin v w)
           ∙ entering paths present shaped S v p w j (lastHeard paths now v)
           (λ k h e. withdrawn-rounds hops heard s m r holds c v k h w e (short v k h) t q)
           (λ u a l e. offers hops c short u a l e)
         where
           offers : (n : ℕ)
               → Contains (listeningOffsets paths) n s
-              → ((v k : ℕ) → k < length (paths v) → length (getD (paths v) k []) ≤ suc n)
+              → Short n
               → (u : ℕ) (a : Path)
               → listens paths v u ≡ true
               → S u ≡ some a
@@ -121,24 +125,17 @@ module _ (paths : ℕ → List Path) (present : ℕ → Bool) (shaped : Shaped p
           offers (suc n) c short u a l e =
               heard-after paths present shaped v u l n heard s m r c (λ x. x ≡ a) (λ before i d. holds-later heard before i holds u a e) t q
 
-  -- the destination chooses (0) whatever was heard
-  origin-holds : (k u : ℕ) (q : Path)
-      → u ≡ 0
-      → settled paths present k u ≡ some q
-      → (heard : List ℕ)
-      → Lasting paths (λ h. choice paths h u ≡ q) heard
-  origin-holds k u q z e heard s r =
-      ap (choice paths (after paths heard s)) z ∙ choice-destination paths (after paths heard s) ∙ sym (origin-path paths present k u q z e)
-
   -- Every vertex settled after k stages chooses its settled path for good, after k times that many rounds.
-  module _ (hops : ℕ) (short : (v k : ℕ) → k < length (paths v) → length (getD (paths v) k []) ≤ suc hops) where
+  module _ (hops : ℕ) (short : Short hops) where
     pub stages-hold : (k : ℕ) (heard : List ℕ) (s : List Pair)
         → length heard ≡ 4096
         → InRange s
         → Contains (listeningOffsets paths) (k * hops) s
         → Holds (settled paths present k) (settled-origin paths present k) (after paths heard s)
     stages-hold zero heard s m r c u q e =
-        by-equal u 0 (λ z. origin-holds 0 u q z e (after paths heard s)) (λ z. absurd (omega (arith, entered paths present 0 u q z e .before)))
+        let first = settled-first paths present u q e in
+        λ t i. ap (choice paths (after paths (after paths heard s) t)) (first .0) ∙ choice-destination paths (after paths (after paths heard s) t)
+        ∙ sym (first .1)
     stages-hold (suc k) heard s m r c u q e =
         let parts = contains-split (listeningOffsets paths) (k * hops) hops s (rw (suc-mul k hops) at c) in
         let ranges = range-parts (parts .first) (parts .second) (rw (parts .parts) at r) in

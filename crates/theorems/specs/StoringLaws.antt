@@ -7,9 +7,6 @@ use mathlib.Core.List.{List, []}
 use mathlib.Core.Option.{none}
 use native.Mathlib.Omega.{arith}
 use lib.ListN.{getD}
-use lib.Dec.{eqb}
-use borrow.Author.Tests.{eqb-true}
-use Rattle.lists.specs.ListLaws.{some-at}
 use Rattle.lists.specs.NumberLaws.{told-second}
 use Rattle.lists.specs.FillLaws.{tabulate-length, tabulate-at, is-tabulate}
 use Rattle.lists.specs.Tests.{by-test, by-equal, true≢}
@@ -19,7 +16,7 @@ use Rattle.rules.specs.Machine.{offsetOf, speaks, byteFor, pathFor, lastHeard, 
 use Rattle.rules.specs.Refusals.{refusal}
 use Rattle.rules.specs.ShapeLaws.{shaped}
 use Rattle.rules.specs.PathLaws.{Stands, place-most}
-use Rattle.rules.specs.MachineLaws.{Listening, valid-bytes, byte-fits, best-same, byte-tells, choice-other, heard-in, listening, byte-good, byte-zero, bytes-valid, offset-listens}
+use Rattle.rules.specs.MachineLaws.{speaker-present, Listening, valid-bytes, byte-fits, best-same, byte-tells, choice-other, heard-in, listening, byte-good, byte-zero, bytes-valid, offset-listens}
 use Rattle.theorems.specs.Claims.{Valid, Holding, storedByte, storing}
 use Rattle.theorems.specs.EnteringLaws.{next-listens}
 
@@ -37,14 +34,6 @@ module _ (t : List ℕ) (accepted : refusal t ≡ none) where
   abbrev vertices : (v u : ℕ) → listens (pathsOf t) v u ≡ true → Listening v u
   vertices = listening (pathsOf t) (present t) (shaped t accepted)
 
-  -- a vertex that is listened to is present
-  pub speaker-present : (v u : ℕ) → listens (pathsOf t) v u ≡ true → present t u ≡ true
-  unfolding listens nextHop
-  speaker-present v u l =
-      let k = some-at (λ p. eqb (nextHop p) u) (pathsOf t v) [] l in
-      let r = shaped t accepted .permitted v (k .0) (k .1) in
-      rw (eqb-true (nextHop (getD (pathsOf t v) (k .0) [])) u (k .2)) at (r .named 1 (r .long))
-
   -- where every pair holds what is given, and that can be spoken of, everyone takes the best for what is given
   pub choice-held : (heard : List ℕ) (given : ℕ → Path)
       → Holding t heard given
@@ -59,7 +48,7 @@ module _ (t : List ℕ) (accepted : refusal t ≡ none) where
       (λ k h. let u = nextHop (getD (paths v) k []) in
       let l = next-listens paths v k h in
       heard-in paths heard v u (vertices v u l .speakerSmall) ∙ ap (pathFor paths u) (holds v u l)
-      ∙ byte-tells paths u (given u) (spoken u (speaker-present v u l)))
+      ∙ byte-tells paths u (given u) (spoken u (speaker-present paths (present t) (shaped t accepted) v u l)))
 
   -- the state that stores an assignment holds it, and is valid
   pub storing-holds : (assigned : ℕ → Path) → Holding t (storing t assigned) assigned
