@@ -150,7 +150,7 @@ not-refused t rows ring a rowsNow ringNow checked fine =
     (meaning-tells (a .verdict) (Refused (r .number) (r .place)) (checked .0 ∙ rw (e, verdict)))))
 
 -- The collector checks a table, and lets runs follow from a valid heard state; nothing is refused. If the stage in a router's row times
--- the check's L is no more than the rounds that the runs answered together, the router's choice is what its row shows.
+-- the check's L is no more than the rounds that the runs answered together, the router's choice is what its row shows, and stays so.
 pub collected : (t rows ring : List ℕ) (a : Answer) (rowsNow ringNow : List ℕ)
     → Checked t rows ring a rowsNow ringNow
     → ((n k : ℕ) → a .verdict ≢ Refused n k)

@@ -52,7 +52,8 @@ module _ (t : List ℕ) (accepted : refusal t ≡ none) where
         others = λ v z e. choice-held t accepted heard (choice paths heard) rests (λ u h. choice-spoken paths heard u) v z;
       }
 
-  -- For every stable assignment there is a valid heard state that no step changes ..
+  -- a stable assignment, and the state that stores it
+
   module _ (assigned : ℕ → Path) (stable : Stable (pathsOf t) (present t) assigned) where
     -- what is assigned can be spoken of
     assigned-spoken : (u : ℕ) → present t u ≡ true → (assigned u ≡ []) ⊎ Stands (speaks (pathsOf t) u) (assigned u)
@@ -62,7 +63,7 @@ module _ (t : List ℕ) (accepted : refusal t ≡ none) where
         (λ z. rw (z, stable .destination, speaks-destination (pathsOf t)) (inr (record { place = 0; under = omega arith; there = refl })))
         (λ z. rw (speaks-other (pathsOf t) u z, stable .others u z e) (first-among (extends assigned) (pathsOf t u)))
 
-    -- .. and whose choices are that assignment: the one that stores it.
+    -- The choices of that state are the assignment ..
     pub stable-choices : (v : ℕ) → present t v ≡ true → choice (pathsOf t) (storing t assigned) v ≡ assigned v
     stable-choices v e =
         by-equal v 0
@@ -70,6 +71,7 @@ module _ (t : List ℕ) (accepted : refusal t ≡ none) where
         (λ z. choice-held t accepted (storing t assigned) assigned (storing-holds t accepted assigned) assigned-spoken v z
         ∙ sym (stable .others v z e))
 
+    -- .. and it is valid and no step changes it: for every stable assignment there is such a state.
     pub stable-rests : Rests t (storing t assigned)
     stable-rests =
         record {
