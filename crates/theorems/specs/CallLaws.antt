@@ -60,6 +60,8 @@ does t heard (ofStep p) e =
       counted = omega arith;
     }
 
+-- accepted calls one after the other
+
 module _ (t : List ℕ) where
   -- the state after them is that after their pairs
   pub all-after : (calls : List Call) (heard : List ℕ)
@@ -135,7 +137,7 @@ module _ (t : List ℕ) (accepted : refusal t ≡ none) where
       (does t heard c (a .0) .admitted .listening))
       (all-range cs (heardAfterCall t heard c) (a .1))
 
-  -- which is valid where the first one was
+  -- the state after them is valid where the first one was
   pub all-valid : (calls : List Call) (heard : List ℕ) → Valid t heard → AllAccepted t heard calls → Valid t (heardAfter t heard calls)
   unfolding AllAccepted heardAfter
   all-valid [] heard valid a = valid
