@@ -72,7 +72,7 @@ module _ (paths : ℕ → List Path) (present : ℕ → Bool) (shaped : Shaped p
         (λ u q l e. agrees u q e)
 
   -- a stable assignment is such a one
-  pub stable-chained : Stable paths present assigned → Chained
+  stable-chained : Stable paths present assigned → Chained
   unfolding extends bestGiven
   stable-chained stable =
       record {

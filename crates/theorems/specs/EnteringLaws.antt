@@ -22,12 +22,12 @@ use Rattle.rules.specs.GreedyLaws.{compatible-waiting, compatible-settled, is-s
 
 -- a path and its parts
 
-pub owner-first : (v : ℕ) (p : Path) → getD p 0 0 ≡ v → 1 ≤ length p → p ≡ v ∷ rest p
+owner-first : (v : ℕ) (p : Path) → getD p 0 0 ≡ v → 1 ≤ length p → p ≡ v ∷ rest p
 unfolding rest
 owner-first v [] e h = absurd (omega arith)
 owner-first v (x ∷ p) e h = ap (λ (y : ℕ). y ∷ p) e
 
-pub hop-second : (p : Path) → 2 ≤ length p → rest p ≡ nextHop p ∷ rest (rest p)
+hop-second : (p : Path) → 2 ≤ length p → rest p ≡ nextHop p ∷ rest (rest p)
 unfolding rest nextHop
 hop-second [] h = absurd (omega arith)
 hop-second (x ∷ []) h = absurd (omega arith)

@@ -28,11 +28,11 @@ unfoldable pub InRange : List Pair → Type 0
 InRange [] = Unit {0}
 InRange (p ∷ s) = Vertices p × InRange s
 
-pub range-none : InRange []
+range-none : InRange []
 unfolding InRange
 range-none = tt
 
-pub range-one : (p : Pair) → Vertices p → InRange (p ∷ [])
+range-one : (p : Pair) → Vertices p → InRange (p ∷ [])
 unfolding InRange
 range-one p r = (r, tt)
 
@@ -66,7 +66,7 @@ module _ (paths : ℕ → List Path) where
     pub lasting-later : (s : List Pair) → InRange s → Lasting P (after heard s)
     lasting-later s r t q = rw (fold-append (step paths) heard s t) at (lasts (s ++ t) (range-append s t r q))
 
-    pub lasting-step : (p : Pair) → Vertices p → Lasting P (step paths heard p)
+    lasting-step : (p : Pair) → Vertices p → Lasting P (step paths heard p)
     unfolding foldLeft
     lasting-step p r = lasting-later (p ∷ []) (range-one p r)
 

@@ -144,21 +144,10 @@ module _ (paths : ℕ → List Path) (present : ℕ → Bool) (shaped : Shaped p
         let holds = stages-hold k heard (parts .first) m (ranges .0) (parts .early) in
         let whole = ap (after paths heard) (parts .parts) ∙ fold-append (step paths) heard (parts .first) (parts .second) in
         rw whole (by-option (settled paths present k u)
-        (λ w. new k u q w e middle (parts .second) long (ranges .1) holds (parts .late))
+        (λ w. enters-rounds (settled paths present k) (settled-origin paths present k) hops short u q middle (parts .second) w
+        (newly-judged paths present k u q w e .1) long (ranges .1) holds (parts .late))
         (λ p w. let same = settled-once paths present k (suc k) u p q w e in
         lasting-later paths (λ h. choice paths h u ≡ q) middle (holds u q (w ∙ ap some same)) (parts .second) (ranges .1)))
-      where
-        new : (k u : ℕ) (q : Path)
-            → settled paths present k u ≡ none
-            → settled paths present (suc k) u ≡ some q
-            → (heard : List ℕ) (s : List Pair)
-            → length heard ≡ 4096
-            → InRange s
-            → Holds (settled paths present k) (settled-origin paths present k) heard
-            → Contains (listeningOffsets paths) hops s
-            → Lasting paths (λ h. choice paths h u ≡ q) (after paths heard s)
-        new k u q w e heard s m r holds c =
-            enters-rounds (settled paths present k) (settled-origin paths present k) hops short u q heard s w (newly-judged paths present k u q w e .1) m r holds c
 
     -- After one round more, whoever listens to such a vertex has heard its settled path for good.
     pub stages-heard : (k : ℕ) (heard : List ℕ) (s : List Pair)
