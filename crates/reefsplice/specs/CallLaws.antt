@@ -17,7 +17,7 @@ use Rattle.rules.specs.Answers.{unless, checkRefusal, checkVerdict, checkNumber
 use Rattle.rules.specs.Entries.{codeOf, wordBytes, numberBytes, twosComplement, sumBytes, checkRefusalForC, rowsForC, ringForC, checkNumbersForC, stepRefusalForC, heardStepForC, stepNumbersForC, runRefusalForC, heardRunForC, sumsForC, runNumbersForC}
 use Rattle.rules.specs.EntryLaws.{check-other, check-same, step-other, step-same, run-other, run-other-sums, run-same}
 use Rattle.rules.specs.MachineLaws.{movement-most}
-use Rattle.rules.specs.PlaceLaws.{check-place, step-place, run-place}
+use Rattle.rules.specs.RefusalLaws.{Numbered, check-numbered, step-numbered, run-numbered}
 use Rattle.rules.specs.TableLaws.{at}
 use Rattle.answer.specs.declared.Answer.{Answer}
 use Rattle.answer.specs.declared.Verdict.the-variants as verdict
@@ -113,7 +113,7 @@ module _ (t rows ring lent : List ℕ) where
       check-refused code q = (q ∙ refused-code _ _ checks, (rows-are, (ring-is, kept _ _ lent _ checks)))
 
       pub check-small : k < 65536
-      check-small = check-place t rows ring (record { number = n; place = k }) (sym same ∙ checks)
+      check-small = check-numbered t rows ring (record { number = n; place = k }) (sym same ∙ checks) .place
 
 module _ (t heard : List ℕ) (p : Pair) (lent : List ℕ) where
   pub step-not-lent : (length lent ≡ 32 → ⊥) → StepCalled t heard p lent 1 heard lent
@@ -159,7 +159,7 @@ module _ (t heard : List ℕ) (p : Pair) (lent : List ℕ) where
       step-refused code q = let f = same-step ∙ stops in (q ∙ refused-code _ _ f, (heard-is, kept _ _ lent _ f))
 
       pub step-small : k < 65536
-      step-small = step-place t heard p (record { number = n; place = k }) stops
+      step-small = step-numbered t heard p (record { number = n; place = k }) stops .place
 
 module _ (t heard s sums lent : List ℕ) where
   -- the run's own sums before it
@@ -216,4 +216,4 @@ module _ (t heard s sums lent : List ℕ) where
           (q ∙ refused-code _ _ f, (state-is, (kept _ _ sums _ f, kept _ _ lent _ f)))
 
       pub run-small : k < 65536
-      run-small = run-place t heard s clear (record { number = n; place = k }) halts
+      run-small = run-numbered t heard s clear (record { number = n; place = k }) halts .place

@@ -160,7 +160,7 @@ unfolding refusedAt
 at-none none n e = refl
 at-none (some k) n e = absurd (none≢some e refl)
 
-both-none : (a b : Option Refusal) → a orElse b ≡ none → (a ≡ none) × (b ≡ none)
+pub both-none : (a b : Option Refusal) → a orElse b ≡ none → (a ≡ none) × (b ≡ none)
 unfolding _orElse_
 both-none none b e = (refl, e)
 both-none (some r) b e = absurd (none≢some e refl)

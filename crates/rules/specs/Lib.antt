@@ -32,7 +32,7 @@ pub mod RunLaws
 pub mod RoundLaws
 pub mod ScheduleLaws
 pub mod AnswerLaws
-pub mod PlaceLaws
+pub mod RefusalLaws
 pub mod EntryLaws
 pub mod TextLaws
 pub mod RunTextLaws
