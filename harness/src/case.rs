@@ -70,7 +70,7 @@ impl Buffer {
 }
 
 /// The bytes of each buffer; those that an entry is not lent stay empty.
-#[derive(Clone, Default)]
+#[derive(Clone, Debug, Default, PartialEq)]
 pub struct Contents([Vec<u8>; 7]);
 
 impl Index<Buffer> for Contents {
@@ -100,9 +100,8 @@ impl Case {
     pub fn inputs(&self) -> String {
         let line = |name, bytes: &[u8]| format!("{name} {}\n", hex(bytes));
         let lent = self.entry.buffers().iter();
-        let mut text: String = lent
-            .map(|&buffer| line(buffer.name(), &self.contents[buffer]))
-            .collect();
+        let mut text: String =
+            lent.map(|&buffer| line(buffer.name(), &self.contents[buffer])).collect();
         if self.entry == Entry::Step {
             text += &line("pair", &self.pair);
         }

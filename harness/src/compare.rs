@@ -18,15 +18,8 @@ pub struct Difference {
 
 impl fmt::Display for Difference {
     fn fmt(&self, to: &mut fmt::Formatter) -> fmt::Result {
-        let Difference {
-            place,
-            ours,
-            theirs,
-        } = self;
-        write!(
-            to,
-            "{place} is {ours} for the proved entry and {theirs} for the second program"
-        )
+        let Difference { place, ours, theirs } = self;
+        write!(to, "{place} is {ours} for the proved entry and {theirs} for the second program")
     }
 }
 

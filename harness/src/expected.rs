@@ -1,4 +1,4 @@
-//! What an entry must answer and leave in each buffer, made from the second program's answer and the page's layout for C.
+//! What an entry must answer and leave in each buffer: the second program's answer, in the page's layout for C.
 
 use second::{Refusal, Verdict};
 
@@ -52,13 +52,7 @@ fn check(lent: &Contents) -> Result<Accepted, u64> {
         Verdict::Stuck(length) => length,
         Verdict::Refused(number, place) => return Err(Refusal { number, place }.code()),
     };
-    let counts = [
-        ring_length,
-        answer.settled,
-        answer.stuck,
-        answer.stages,
-        answer.longest,
-    ];
+    let counts = [ring_length, answer.settled, answer.stuck, answer.stages, answer.longest];
     let filled = vec![(Buffer::Rows, rows), (Buffer::Ring, ring)];
     Ok((counts.map(signed).to_vec(), filled))
 }
@@ -95,9 +89,7 @@ pub fn words(numbers: &[i32], count: usize) -> Vec<u8> {
 /// The numbers that such words hold.
 pub fn numbers_in(bytes: &[u8]) -> Vec<i32> {
     let words = bytes.chunks_exact(4);
-    words
-        .map(|word| i32::from_le_bytes([word[0], word[1], word[2], word[3]]))
-        .collect()
+    words.map(|word| i32::from_le_bytes([word[0], word[1], word[2], word[3]])).collect()
 }
 
 #[cfg(test)]
@@ -107,9 +99,7 @@ mod tests {
     /// Written by hand from the page: four bytes, low byte first, two's complement, the rest 0.
     #[test]
     fn words_are_low_byte_first_and_two_s_complement() {
-        let bytes = [
-            1, 0, 0, 0, 255, 255, 255, 255, 240, 255, 255, 255, 0, 64, 0, 0, 0, 0, 0, 0,
-        ];
+        let bytes = [1, 0, 0, 0, 255, 255, 255, 255, 240, 255, 255, 255, 0, 64, 0, 0, 0, 0, 0, 0];
         assert_eq!(words(&[1, -1, -16, 16384], 5), bytes);
         assert_eq!(numbers_in(&bytes), [1, -1, -16, 16384, 0]);
     }
@@ -121,21 +111,12 @@ mod tests {
         }
         contents[Buffer::Table] = table.to_vec();
         let pair = [0, 0];
-        Case {
-            entry,
-            pair,
-            contents,
-        }
+        Case { entry, pair, contents }
     }
 
     /// Table 7 of the page.
     fn table_7() -> Vec<u8> {
-        let records = [
-            &[1, 1, 1, 0][..],
-            &[1, 2, 2, 1, 0],
-            &[2, 1, 2, 0],
-            &[1, 2, 3, 2, 0],
-        ];
+        let records = [&[1, 1, 1, 0][..], &[1, 2, 2, 1, 0], &[2, 1, 2, 0], &[1, 2, 3, 2, 0]];
         let padded = records.map(|fields| {
             let mut record = [255; 16];
             record[..fields.len()].copy_from_slice(fields);
@@ -174,10 +155,7 @@ mod tests {
         assert_eq!(expected.code, 0);
         assert_eq!(numbers_of(&expected), [5, 4, 1, 5, 1, 0, 0, 0]);
         let sums = &expected.contents[Buffer::Sums];
-        assert_eq!(
-            sums[..20],
-            [0, 0, 0, 0, 16, 0, 0, 0, 16, 0, 0, 0, 0, 0, 0, 0, 0, 0, 0, 0]
-        );
+        assert_eq!(sums[..20], [0, 0, 0, 0, 16, 0, 0, 0, 16, 0, 0, 0, 0, 0, 0, 0, 0, 0, 0, 0]);
     }
 
     #[test]
@@ -200,9 +178,7 @@ mod tests {
             case.contents[buffer].push(9);
             let expected = of(&case);
             assert_eq!(expected.code, 1, "{entry:?} {buffer:?}");
-            for &lent in entry.buffers() {
-                assert_eq!(expected.contents[lent], case.contents[lent]);
-            }
+            assert_eq!(expected.contents, case.contents);
         }
     }
 
@@ -210,8 +186,6 @@ mod tests {
         let all = Entry::ALL.iter();
         let pairs =
             all.flat_map(|&entry| entry.buffers().iter().map(move |&buffer| (entry, buffer)));
-        pairs
-            .filter(|(_, buffer)| buffer.written_length().is_some())
-            .collect()
+        pairs.filter(|(_, buffer)| buffer.written_length().is_some()).collect()
     }
 }

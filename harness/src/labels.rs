@@ -127,10 +127,7 @@ fn check_labels(after: &Contents) -> Vec<&'static str> {
         ("with a vertex without a path", has_none),
         ("63 stages", stages == 63),
         ("12 hops", longest == 12),
-        (
-            "ring without the lowest stuck vertex",
-            lowest.is_some_and(is_outside),
-        ),
+        ("ring without the lowest stuck vertex", lowest.is_some_and(is_outside)),
     ])
 }
 
@@ -141,10 +138,7 @@ fn step_labels(before: &Contents, after: &Contents) -> Vec<&'static str> {
         ("up", movement > 0),
         ("down", movement < 0),
         ("no movement", movement == 0),
-        (
-            "another byte stored without a movement",
-            movement == 0 && is_stored,
-        ),
+        ("another byte stored without a movement", movement == 0 && is_stored),
     ])
 }
 
@@ -155,10 +149,7 @@ fn run_labels(after: &Contents) -> Vec<&'static str> {
         ("with ups", ups > 0),
         ("with downs", downs > 0),
         ("no change", last_change == 0),
-        (
-            "last change before the last step",
-            0 < last_change && last_change < steps,
-        ),
+        ("last change before the last step", 0 < last_change && last_change < steps),
         ("with rounds", rounds > 0),
         ("no round", rounds == 0),
         ("with a sum below 0", sums.iter().any(|&sum| sum < 0)),
@@ -176,10 +167,7 @@ mod tests {
     fn each_label_that_comes_has_a_least_number() {
         for number in 0..1500 {
             let (case, _) = making::case(3, number);
-            let known: Vec<String> = all_of(case.entry)
-                .into_iter()
-                .map(|(name, _)| name)
-                .collect();
+            let known: Vec<String> = all_of(case.entry).into_iter().map(|(name, _)| name).collect();
             let mut found = of(&case, &expected::of(&case));
             found.retain(|label| !known.contains(label));
             assert_eq!(found, Vec::<String>::new(), "case {number}");
@@ -191,9 +179,6 @@ mod tests {
         let found = [0, 16, 240, 256, 4080, 4096, 16112, 16128, 16129, 16144, 17].map(table_label);
         let [empty, few, some, many, full, long, ragged] =
             [0, 1, 2, 3, 4, 5, 6].map(|at| TABLES[at].0);
-        assert_eq!(
-            found,
-            [empty, few, few, some, some, many, many, full, long, long, ragged]
-        );
+        assert_eq!(found, [empty, few, few, some, some, many, many, full, long, long, ragged]);
     }
 }

@@ -32,13 +32,7 @@ impl Loan {
         let mut bytes = random.bytes(front);
         bytes.extend_from_slice(content);
         bytes.extend(random.bytes(EDGE));
-        Loan {
-            buffer,
-            kept: bytes.clone(),
-            bytes,
-            front,
-            length: content.len(),
-        }
+        Loan { buffer, kept: bytes.clone(), bytes, front, length: content.len() }
     }
 
     pub fn span(&mut self) -> Span {
@@ -84,9 +78,7 @@ impl Loan {
 /// What a call is lent, in the order of its parameters.
 pub fn lend(case: &Case, random: &mut Random) -> Vec<Loan> {
     let buffers = case.entry.buffers().iter();
-    buffers
-        .map(|&buffer| Loan::new(buffer, &case.contents[buffer], random))
-        .collect()
+    buffers.map(|&buffer| Loan::new(buffer, &case.contents[buffer], random)).collect()
 }
 
 #[cfg(test)]
@@ -111,10 +103,7 @@ mod tests {
             let found = loan.content()[at as usize];
             let wanted = at as u8 + 1;
             assert_eq!(found, wanted ^ 1);
-            assert_eq!(
-                loan.first_wrong(&[1, 2, 3]),
-                Some(Wrong { at, found, wanted })
-            );
+            assert_eq!(loan.first_wrong(&[1, 2, 3]), Some(Wrong { at, found, wanted }));
         }
     }
 
@@ -122,11 +111,7 @@ mod tests {
     fn a_byte_that_should_have_changed_is_wrong() {
         let found = loan().first_wrong(&[1, 9, 3]);
         let (at, found_byte, wanted) = (1, 2, 9);
-        let wrong = Wrong {
-            at,
-            found: found_byte,
-            wanted,
-        };
+        let wrong = Wrong { at, found: found_byte, wanted };
         assert_eq!(found, Some(wrong));
     }
 

@@ -94,10 +94,7 @@ fn clock_seed() -> u64 {
 }
 
 fn compare_all(options: Options) -> ExitCode {
-    let mut comparison = Comparison {
-        plant: options.plant,
-        mix: Mix::default(),
-    };
+    let mut comparison = Comparison { plant: options.plant, mix: Mix::default() };
     let seed = options.seed.unwrap_or(1);
     trouble::watch();
     let compared = match options.extent {

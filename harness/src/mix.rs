@@ -22,8 +22,7 @@ pub struct Mix {
 impl Mix {
     pub fn add(&mut self, case: &Case, expected: &Expected) {
         self.cases += 1;
-        self.table_lengths
-            .insert(case.contents[Buffer::Table].len());
+        self.table_lengths.insert(case.contents[Buffer::Table].len());
         for label in labels::of(case, expected) {
             *self.counts.entry((case.entry.name(), label)).or_default() += 1;
         }
@@ -43,10 +42,7 @@ impl Mix {
             format!("{}: {}\n", entry.name(), counted.join(", "))
         };
         let lines: String = Entry::ALL.into_iter().map(line).collect();
-        format!(
-            "{lines}different lengths of tables: {}",
-            self.table_lengths.len()
-        )
+        format!("{lines}different lengths of tables: {}", self.table_lengths.len())
     }
 
     /// The labels that came too seldom, where there are enough cases to tell.
@@ -63,10 +59,7 @@ impl Mix {
             let (found, least) = (self.count(entry, &label), least * self.cases / CASES);
             (found < least).then(|| format!("{} {label}: {found}, at least {least}", entry.name()))
         };
-        labels::all_of(entry)
-            .into_iter()
-            .filter_map(too_few)
-            .collect()
+        labels::all_of(entry).into_iter().filter_map(too_few).collect()
     }
 }
 
@@ -94,10 +87,7 @@ mod tests {
 
     #[test]
     fn few_cases_are_not_judged() {
-        let without_labels = |cases| Mix {
-            cases,
-            ..Mix::default()
-        };
+        let without_labels = |cases| Mix { cases, ..Mix::default() };
         assert!(without_labels(LEAST_JUDGED - 1).rare().is_empty());
         assert!(without_labels(LEAST_JUDGED).rare().len() > 30);
     }

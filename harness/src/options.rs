@@ -13,8 +13,8 @@ pub const USAGE: &str = "usage: harness [--cases N | --minutes N | --case N] [--
   --seed N      the seed, or the first one (1; for --minutes, one that the clock gives)
   --plant NAME  plant a difference, which must then be found
   --plants      print the names of the differences that can be planted
-It ends with 0 where nothing differs, with 1 at the first difference, with 2 where some kind of case came too seldom, and
-with 3 where it does not know a word.";
+It ends with 0 where nothing differs, with 1 at the first difference, with 2 where some kind of case came too
+seldom, and with 3 where it does not know a word.";
 
 /// How many cases are compared.
 #[derive(Debug, PartialEq)]
@@ -34,11 +34,7 @@ pub struct Options {
 
 /// The options, or what is wrong with the words.
 pub fn parse(words: &[String]) -> Result<Options, String> {
-    let mut options = Options {
-        extent: Extent::Cases(mix::CASES),
-        seed: None,
-        plant: None,
-    };
+    let mut options = Options { extent: Extent::Cases(mix::CASES), seed: None, plant: None };
     let mut words = words.iter();
     while let Some(word) = words.next() {
         let mut value = || words.next().ok_or(format!("{word} takes a value"));
@@ -66,9 +62,7 @@ fn minutes(word: &str) -> Result<Duration, String> {
 }
 
 fn plant(name: &str) -> Result<Plant, String> {
-    Plant::named(name).ok_or(format!(
-        "no plant is named {name}; --plants prints their names"
-    ))
+    Plant::named(name).ok_or(format!("no plant is named {name}; --plants prints their names"))
 }
 
 #[cfg(test)]
@@ -83,10 +77,7 @@ mod tests {
     #[test]
     fn words_are_read() {
         assert_eq!(parsed(&[]), Ok((Extent::Cases(30_000), None)));
-        assert_eq!(
-            parsed(&["--seed", "9", "--cases", "5"]),
-            Ok((Extent::Cases(5), Some(9)))
-        );
+        assert_eq!(parsed(&["--seed", "9", "--cases", "5"]), Ok((Extent::Cases(5), Some(9))));
         assert_eq!(
             parsed(&["--minutes", "0.5"]),
             Ok((Extent::Time(Duration::from_secs(30)), None))

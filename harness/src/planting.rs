@@ -163,18 +163,8 @@ fn layouts() -> Vec<Plant> {
     let high_byte_first = |bytes: &mut [u8]| bytes.chunks_exact_mut(4).for_each(<[u8]>::reverse);
     let without_ring_length = |bytes: &mut [u8]| bytes.rotate_left(4);
     vec![
-        of(
-            Entry::Check,
-            "no-ring-length",
-            Buffer::Numbers,
-            without_ring_length,
-        ),
-        of(
-            Entry::Step,
-            "movement-of-one-byte",
-            Buffer::Numbers,
-            without_sign,
-        ),
+        of(Entry::Check, "no-ring-length", Buffer::Numbers, without_ring_length),
+        of(Entry::Step, "movement-of-one-byte", Buffer::Numbers, without_sign),
         of(Entry::Run, "high-byte-first", Buffer::Sums, high_byte_first),
     ]
 }
@@ -188,56 +178,21 @@ fn seldom() -> Vec<Plant> {
     vec![
         plant(Check, "stays", When::RefusedWith(11), What::Stay),
         plant(Check, "refusal-11", When::RefusedWith(11), What::Code(256)),
-        plant(
-            Check,
-            "63-stages",
-            When::Word(Numbers, |n| n[3] == 63),
-            last(Rows),
-        ),
-        plant(
-            Check,
-            "ring-of-10",
-            When::Word(Numbers, |n| n[0] >= 10),
-            first(Ring),
-        ),
-        plant(
-            Check,
-            "full-table",
-            When::Length(Table, 16128),
-            first(Numbers),
-        ),
+        plant(Check, "63-stages", When::Word(Numbers, |n| n[3] == 63), last(Rows)),
+        plant(Check, "ring-of-10", When::Word(Numbers, |n| n[0] >= 10), first(Ring)),
+        plant(Check, "full-table", When::Length(Table, 16128), first(Numbers)),
         plant(Step, "refusal-14", When::RefusedWith(14), What::Code(256)),
         plant(Step, "refusal-1", When::RefusedWith(1), first(Heard)),
-        plant(
-            Step,
-            "deepest-fall",
-            When::Word(Numbers, |n| n[0] == -16),
-            last(Numbers),
-        ),
+        plant(Step, "deepest-fall", When::Word(Numbers, |n| n[0] == -16), last(Numbers)),
         plant(Run, "refusal-14", When::RefusedWith(14), What::Code(256)),
         plant(Run, "refusal-13", When::RefusedWith(13), first(Sums)),
-        plant(
-            Run,
-            "negative-sum",
-            When::Word(Sums, |n| n.iter().any(|&n| n < 0)),
-            last(Sums),
-        ),
-        plant(
-            Run,
-            "longest-schedule",
-            When::Length(Schedule, 32768),
-            last(Heard),
-        ),
+        plant(Run, "negative-sum", When::Word(Sums, |n| n.iter().any(|&n| n < 0)), last(Sums)),
+        plant(Run, "longest-schedule", When::Length(Schedule, 32768), last(Heard)),
         plant(Run, "no-pair", When::Length(Schedule, 0), first(Sums)),
     ]
 }
 
 fn plant(entry: Entry, name: &str, when: When, what: What) -> Plant {
     let name = format!("{}-{name}", entry.name());
-    Plant {
-        name,
-        entry,
-        when,
-        what,
-    }
+    Plant { name, entry, when, what }
 }

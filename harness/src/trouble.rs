@@ -87,17 +87,10 @@ fn heading(seed: u64, number: u64, what: &str) -> String {
 }
 
 fn inputs(seed: u64, number: u64, case: &Case) -> String {
-    format!(
-        "{}again: harness --seed {seed} --case {number}\n",
-        case.inputs()
-    )
+    format!("{}again: harness --seed {seed} --case {number}\n", case.inputs())
 }
 
 /// All that is needed to see a difference again.
 pub fn said(seed: u64, number: u64, case: &Case, what: &str) -> String {
-    format!(
-        "{}\n{}",
-        heading(seed, number, what),
-        inputs(seed, number, case)
-    )
+    format!("{}\n{}", heading(seed, number, what), inputs(seed, number, case))
 }

@@ -9,11 +9,7 @@ use super::tables::{MOST_BYTES, MOST_HOPS};
 fn other_than(random: &mut Random, is_allowed: impl Fn(u8) -> bool) -> Option<u8> {
     let others: Vec<u8> = (0..=255).filter(|&byte| !is_allowed(byte)).collect();
     let is_near = |byte: u8| is_allowed(byte.wrapping_add(1)) || is_allowed(byte.wrapping_sub(1));
-    let near: Vec<u8> = others
-        .iter()
-        .copied()
-        .filter(|&byte| is_near(byte))
-        .collect();
+    let near: Vec<u8> = others.iter().copied().filter(|&byte| is_near(byte)).collect();
     match (random.chance(50), &near[..], &others[..]) {
         (_, _, []) => None,
         (true, near @ [_, ..], _) => Some(random.choose(near)),
@@ -25,9 +21,7 @@ fn other_than(random: &mut Random, is_allowed: impl Fn(u8) -> bool) -> Option<u8
 /// no such record. In a valid table no rule before this one is broken then.
 pub fn break_rule(random: &mut Random, table: &mut [u8], rule: u8) -> Option<usize> {
     let records = table.len() / RECORD_BYTES;
-    let places: Vec<usize> = (0..records)
-        .filter(|&at| can_break(table, at, rule))
-        .collect();
+    let places: Vec<usize> = (0..records).filter(|&at| can_break(table, at, rule)).collect();
     let last = places.len().checked_sub(1)?;
     let any = random.between(0, last);
     let at = places[random.choose(&[0, last, any, any])];
@@ -49,38 +43,24 @@ fn can_break(table: &[u8], at: usize, rule: u8) -> bool {
         }
 }
 
+/// Nothing where no byte breaks the rule.
 fn change_record(random: &mut Random, before: &[u8], record: &mut [u8], rule: u8) -> Option<()> {
     let hops = usize::from(record[1]);
     let path = record[2..3 + hops].to_vec();
     let any_of_path = random.between(2, 2 + hops);
     let any_filler = random.between(3 + hops, RECORD_BYTES - 1);
     let (at, byte) = match rule {
-        4 => (
-            1,
-            other_than(random, |byte| (1..=MOST_HOPS as u8).contains(&byte))?,
-        ),
-        5 => (
-            any_of_path,
-            other_than(random, |byte| byte < VERTICES as u8)?,
-        ),
-        6 => (
-            any_filler,
-            other_than(random, |byte| byte == record[any_filler])?,
-        ),
+        4 => (1, other_than(random, |byte| (1..=MOST_HOPS as u8).contains(&byte))?),
+        5 => (any_of_path, other_than(random, |byte| byte < VERTICES as u8)?),
+        6 => (any_filler, other_than(random, |byte| byte == record[any_filler])?),
         7 => {
             let two = random.sample(&(0..=hops).collect::<Vec<_>>(), 2);
             (2 + two[0], path[two[1]])
         }
-        8 => (
-            2 + hops,
-            other_than(random, |byte| byte > 63 || path.contains(&byte))?,
-        ),
+        8 => (2 + hops, other_than(random, |byte| byte > 63 || path.contains(&byte))?),
         9 => {
             let previous = before[before.len() - RECORD_BYTES + 2];
-            (
-                2,
-                other_than(random, |byte| byte >= previous || path[1..].contains(&byte))?,
-            )
+            (2, other_than(random, |byte| byte >= previous || path[1..].contains(&byte))?)
         }
         10 => (0, other_rank(random, record[0])),
         _ => {
@@ -97,14 +77,7 @@ fn change_record(random: &mut Random, before: &[u8], record: &mut [u8], rule: u8
 /// A near rank or any other, since a near one is the likelier to be let through.
 fn other_rank(random: &mut Random, rank: u8) -> u8 {
     let any = random.byte();
-    let near = [
-        rank.wrapping_sub(1),
-        rank.wrapping_add(1),
-        0,
-        1,
-        RANKS as u8 + 1,
-        any,
-    ];
+    let near = [rank.wrapping_sub(1), rank.wrapping_add(1), 0, 1, RANKS as u8 + 1, any];
     match random.choose(&near) {
         same if same == rank => rank.wrapping_add(1),
         other => other,
@@ -188,17 +161,20 @@ mod tests {
     #[test]
     fn each_rule_is_broken_where_it_says_and_no_other_before() {
         for rule in 4..=11 {
-            let mut broken = 0;
-            for seed in 0..300 {
-                let mut random = Random::new(seed);
-                let mut table = shapes::table(&mut random);
-                if let Some(at) = break_rule(&mut random, &mut table, rule) {
-                    assert_eq!(judged(&table), Some((rule, at)), "rule {rule}, seed {seed}");
-                    broken += 1;
-                }
-            }
+            let broken = (0..300).filter(|&seed| is_broken(rule, seed)).count();
             assert!(broken > 100, "rule {rule}: {broken}");
         }
+    }
+
+    /// Whether some record could break the rule; then that is what is judged.
+    fn is_broken(rule: u8, seed: u64) -> bool {
+        let mut random = Random::new(seed);
+        let mut table = shapes::table(&mut random);
+        let broken = break_rule(&mut random, &mut table, rule);
+        if let Some(at) = broken {
+            assert_eq!(judged(&table), Some((rule, at)), "rule {rule}, seed {seed}");
+        }
+        broken.is_some()
     }
 
     #[test]

@@ -96,11 +96,7 @@ fn valid_case(random: &mut Random, entry: Entry) -> (Case, Facts) {
         Entry::Run => contents[Buffer::Schedule] = schedules::accepted(random, &facts),
     }
     contents[Buffer::Table] = table;
-    let case = Case {
-        entry,
-        pair,
-        contents,
-    };
+    let case = Case { entry, pair, contents };
     (case, facts)
 }
 
@@ -148,9 +144,7 @@ fn break_rule(random: &mut Random, table: &mut [u8], rule: u8) {
 /// One of the buffers that have a fixed length gets another, or several do.
 fn change_lengths(random: &mut Random, case: &mut Case) {
     let lent = case.entry.buffers().iter().copied();
-    let fixed: Vec<Buffer> = lent
-        .filter(|buffer| buffer.written_length().is_some())
-        .collect();
+    let fixed: Vec<Buffer> = lent.filter(|buffer| buffer.written_length().is_some()).collect();
     let any_count = random.between(1, fixed.len());
     let count = random.choose(&[1, 1, any_count]);
     for buffer in random.sample(&fixed, count) {

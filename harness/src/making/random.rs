@@ -91,11 +91,7 @@ mod tests {
         let found = [random.next(), random.next(), random.next()];
         assert_eq!(
             found,
-            [
-                6_457_827_717_110_365_317,
-                3_203_168_211_198_807_973,
-                9_817_491_932_198_370_423
-            ]
+            [6_457_827_717_110_365_317, 3_203_168_211_198_807_973, 9_817_491_932_198_370_423]
         );
     }
 
@@ -115,18 +111,14 @@ mod tests {
     fn bounds_are_reached_and_kept() {
         let mut random = Random::new(2);
         let found: Vec<_> = (0..200).map(|_| random.between(3, 6)).collect();
-        assert_eq!(
-            (found.iter().min(), found.iter().max()),
-            (Some(&3), Some(&6))
-        );
+        assert_eq!((found.iter().min(), found.iter().max()), (Some(&3), Some(&6)));
     }
 
     #[test]
     fn weights_decide() {
         let mut random = Random::new(3);
-        let found: Vec<_> = (0..4000)
-            .map(|_| random.weighted(&[(3, 'a'), (0, 'b'), (1, 'c')]))
-            .collect();
+        let found: Vec<_> =
+            (0..4000).map(|_| random.weighted(&[(3, 'a'), (0, 'b'), (1, 'c')])).collect();
         let count = |letter| found.iter().filter(|&&drawn| drawn == letter).count();
         assert_eq!(count('b'), 0);
         assert!((900..1100).contains(&count('c')), "{}", count('c'));
@@ -135,9 +127,8 @@ mod tests {
     #[test]
     fn cases_differ() {
         let first = |seed, number| Random::of_case(seed, number).next();
-        let mut found: Vec<_> = (0..40)
-            .flat_map(|seed| (0..40).map(move |number| first(seed, number)))
-            .collect();
+        let mut found: Vec<_> =
+            (0..40).flat_map(|seed| (0..40).map(move |number| first(seed, number))).collect();
         found.sort_unstable();
         found.dedup();
         assert_eq!(found.len(), 1600);

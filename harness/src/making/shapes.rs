@@ -148,10 +148,7 @@ fn ranked(random: &mut Random, paths: Paths) -> Paths {
         own
     };
     let (owners, lists): (Vec<u8>, Vec<_>) = paths.into_iter().unzip();
-    owners
-        .into_iter()
-        .zip(lists.into_iter().map(rank))
-        .collect()
+    owners.into_iter().zip(lists.into_iter().map(rank)).collect()
 }
 
 fn small_grown(random: &mut Random) -> Paths {
@@ -176,11 +173,8 @@ fn many_grown(random: &mut Random) -> Paths {
 
 /// Without some owners' records, so that others name vertices that own none.
 fn silent(random: &mut Random) -> Paths {
-    let growth = Growth {
-        vertices: some_owners(random, 3, 12),
-        most_paths: 5,
-        most_hops: MOST_HOPS,
-    };
+    let growth =
+        Growth { vertices: some_owners(random, 3, 12), most_paths: 5, most_hops: MOST_HOPS };
     let mut paths = growth.grow(random, 80);
     let count = random.between(1, growth.vertices.len() / 2);
     for v in random.sample(&growth.vertices[1..], count) {
@@ -191,11 +185,7 @@ fn silent(random: &mut Random) -> Paths {
 
 /// All 1,008 records: grown as far as that goes, then filled.
 fn full_grown(random: &mut Random) -> Paths {
-    let growth = Growth {
-        vertices: owners(),
-        most_paths: MOST_PATHS,
-        most_hops: MOST_HOPS,
-    };
+    let growth = Growth { vertices: owners(), most_paths: MOST_PATHS, most_hops: MOST_HOPS };
     let mut paths = growth.grow(random, 3000);
     for owner in owners() {
         let missing = MOST_PATHS - paths.get(&owner).map_or(0, Vec::len);
@@ -228,10 +218,7 @@ fn rings(random: &mut Random) -> Paths {
     let mut paths = Paths::new();
     following(&mut paths, circle(ring));
     let reached = random.choose(&[length, length, length + tail_count]);
-    let leads: Vec<u8> = tails
-        .iter()
-        .map(|_| random.choose(&vertices[..reached]))
-        .collect();
+    let leads: Vec<u8> = tails.iter().map(|_| random.choose(&vertices[..reached])).collect();
     let apart = tails.iter().copied().zip(leads).filter(|(v, u)| v != u);
     following(&mut paths, apart);
     match others.len() {
@@ -256,11 +243,8 @@ fn full_ring(random: &mut Random) -> Paths {
 
 /// A line of up to twelve vertices, each with the path along it, among other paths; some lines are broken.
 fn long_line(random: &mut Random) -> Paths {
-    let growth = Growth {
-        vertices: some_owners(random, MOST_HOPS, 20),
-        most_paths: 4,
-        most_hops: 3,
-    };
+    let growth =
+        Growth { vertices: some_owners(random, MOST_HOPS, 20), most_paths: 4, most_hops: 3 };
     let mut paths = growth.grow(random, 40);
     for length in 1..=MOST_HOPS {
         let line = along(&growth.vertices[..length]);
@@ -289,10 +273,8 @@ fn near_misses(random: &mut Random) -> Paths {
     let [late, one, other, stranger] = others[..4] else {
         unreachable!("twenty vertices leave ten beside the line")
     };
-    let mut paths = Paths::new();
-    for length in 1..=line.len() {
-        add(&mut paths, along(&line[..length]), MOST_PATHS);
-    }
+    let fronts = (1..=length).map(|length| along(&line[..length]));
+    let mut paths: Paths = fronts.map(|path| (path[0], vec![path])).collect();
     following(&mut paths, circle(&[one, other]));
     paths.insert(late, vec![[&[late], &along(line)[..]].concat()]);
     paths.insert(stranger, vec![vec![stranger, 0]]);
@@ -321,10 +303,7 @@ fn changed(random: &mut Random, line: &[u8], stranger: u8) -> Vec<u8> {
 
 /// Paths of 12 hops through a vertex that settles on its direct path, so that none stays compatible.
 fn block(random: &mut Random, paths: &mut Paths, owner: u8, through: u8, count: usize) {
-    let others: Vec<u8> = owners()
-        .into_iter()
-        .filter(|&v| v != owner && v != through)
-        .collect();
+    let others: Vec<u8> = owners().into_iter().filter(|&v| v != owner && v != through).collect();
     let mut missing = count;
     while missing > 0 {
         let drawn = random.sample(&others, MOST_HOPS - 2);
@@ -380,13 +359,12 @@ mod tests {
 
     #[test]
     fn every_shape_is_accepted() {
-        for (at, (_, shape)) in SHAPES.into_iter().enumerate() {
-            for seed in 0..100 {
-                let table = made(shape, seed);
-                let refused = second::Table::read(&table).err();
-                assert_eq!(refused, None, "shape {at}, seed {seed}");
-                assert_eq!(table.is_empty(), at == 0, "shape {at}, seed {seed}");
-            }
+        for turn in 0..100 * SHAPES.len() {
+            let (seed, at) = (turn / SHAPES.len(), turn % SHAPES.len());
+            let table = made(SHAPES[at].1, seed as u64);
+            let refused = second::Table::read(&table).err();
+            assert_eq!(refused, None, "shape {at}, seed {seed}");
+            assert_eq!(table.is_empty(), at == 0, "shape {at}, seed {seed}");
         }
     }
 
@@ -405,10 +383,7 @@ mod tests {
     fn stages_and_rings_are_as_long_as_they_can_be() {
         for shape in [all_stages, full_stages] as [Shape; 2] {
             let answer = checked(&made(shape, 1));
-            assert_eq!(
-                (answer.stages, answer.settled, answer.longest),
-                (63, 63, 12)
-            );
+            assert_eq!((answer.stages, answer.settled, answer.longest), (63, 63, 12));
         }
         let answer = checked(&made(full_ring, 1));
         assert_eq!(answer.verdict, second::Verdict::Stuck(63));

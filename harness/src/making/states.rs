@@ -88,10 +88,7 @@ mod tests {
             let mut state = valid(&mut random, &table, &facts);
             assert_eq!(second::first_bad_offset(&read, &state), None, "seed {seed}");
             spoil(&mut random, &mut state, &facts);
-            assert!(
-                second::first_bad_offset(&read, &state).is_some(),
-                "seed {seed}"
-            );
+            assert!(second::first_bad_offset(&read, &state).is_some(), "seed {seed}");
         }
     }
 }

@@ -81,45 +81,23 @@ mod tests {
     #[test]
     fn a_table_is_laid_out_as_on_the_page() {
         let mut paths = Paths::new();
-        for path in [
-            vec![2, 3, 0],
-            vec![2, 1, 0],
-            vec![2, 0],
-            vec![1, 0],
-            vec![2, 0],
-        ] {
+        for path in [vec![2, 3, 0], vec![2, 1, 0], vec![2, 0], vec![1, 0], vec![2, 0]] {
             add(&mut paths, path, MOST_PATHS);
         }
         let table = table_of(&paths);
         let x = 255;
-        assert_eq!(
-            table[..16],
-            [1, 1, 1, 0, x, x, x, x, x, x, x, x, x, x, x, 0]
-        );
-        assert_eq!(
-            table[16..32],
-            [1, 2, 2, 3, 0, x, x, x, x, x, x, x, x, x, x, 0]
-        );
-        assert_eq!(
-            table[48..],
-            [3, 1, 2, 0, x, x, x, x, x, x, x, x, x, x, x, 0]
-        );
+        assert_eq!(table[..16], [1, 1, 1, 0, x, x, x, x, x, x, x, x, x, x, x, 0]);
+        assert_eq!(table[16..32], [1, 2, 2, 3, 0, x, x, x, x, x, x, x, x, x, x, 0]);
+        assert_eq!(table[48..], [3, 1, 2, 0, x, x, x, x, x, x, x, x, x, x, x, 0]);
     }
 
     #[test]
     fn facts_are_the_pairs_and_the_speakers_paths() {
-        let paths = Paths::from([
-            (1, vec![vec![1, 2, 0]]),
-            (2, vec![vec![2, 0], vec![2, 1, 0]]),
-        ]);
+        let paths = Paths::from([(1, vec![vec![1, 2, 0]]), (2, vec![vec![2, 0], vec![2, 1, 0]])]);
         let facts = Facts::of(&table_of(&paths));
         assert_eq!(facts.pairs, [[1, 2], [2, 0], [2, 1]]);
-        let found: Vec<_> = facts
-            .highest
-            .iter()
-            .enumerate()
-            .filter(|&(_, &most)| most > 0)
-            .collect();
+        let found: Vec<_> =
+            facts.highest.iter().enumerate().filter(|&(_, &most)| most > 0).collect();
         assert_eq!(found, [(64 + 2, &2), (128, &1), (128 + 1, &1)]);
     }
 }
