@@ -36,10 +36,11 @@ fn drawn(random: &mut Random, facts: &Facts) -> Vec<u8> {
 
 /// Listeners have heard rests of their own paths, so that many have a choice to lose.
 fn fitting(random: &mut Random, table: &[u8]) -> Vec<u8> {
-    let table = second::Table::read(table).expect("only accepted tables have states");
-    let records = (1..VERTICES).flat_map(|v| table.paths_of(v));
     let mut state = zeros();
-    for path in records {
+    let Ok(table) = second::Table::read(table) else {
+        return state;
+    };
+    for path in (1..VERTICES).flat_map(|v| table.paths_of(v)) {
         let next = path.next_hop();
         let own = table.paths_of(next).find(|own| own.vertices == path.rest());
         let rank = own.map_or(u8::from(next == 0), |own| own.rank);
@@ -54,8 +55,8 @@ fn fitting(random: &mut Random, table: &[u8]) -> Vec<u8> {
 fn reached(random: &mut Random, table: &[u8], facts: &Facts) -> Vec<u8> {
     let mut state = drawn(random, facts);
     let schedule = schedules::short(random, facts);
-    let ran = second::run(table, &mut state, &schedule, &mut [0; VERTICES]);
-    ran.expect("a valid table, a valid state and listening pairs are accepted");
+    // It is accepted; should the second program refuse it, the comparison must tell and not this.
+    let _ = second::run(table, &mut state, &schedule, &mut [0; VERTICES]);
     state
 }
 
