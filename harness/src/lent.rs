@@ -58,20 +58,12 @@ impl Loan {
 
     /// The first byte that is neither what was wanted in the buffer nor what was there in an edge.
     pub fn first_wrong(&self, wanted: &[u8]) -> Option<Wrong> {
-        assert_eq!(wanted.len(), self.length, "a buffer keeps its length");
-        let (before, rest) = self.kept.split_at(self.front);
-        let whole = before.iter().chain(wanted).chain(&rest[self.length..]);
-        let mut pairs = self.bytes.iter().zip(whole);
+        let mut whole = self.kept.clone();
+        whole[self.front..self.front + self.length].copy_from_slice(wanted);
+        let mut pairs = self.bytes.iter().zip(&whole);
         let place = pairs.position(|(found, wanted)| found != wanted)?;
         let at = place as isize - self.front as isize;
-        Some(Wrong {
-            at,
-            found: self.bytes[place],
-            wanted: *usize::try_from(at)
-                .ok()
-                .and_then(|at| wanted.get(at))
-                .unwrap_or(&self.kept[place]),
-        })
+        Some(Wrong { at, found: self.bytes[place], wanted: whole[place] })
     }
 }
 

@@ -93,7 +93,7 @@ fn clock_seed() -> u64 {
     now.map_or(1, |since| since.as_secs())
 }
 
-fn compare_all(options: Options) -> ExitCode {
+fn run(options: Options) -> ExitCode {
     let mut comparison = Comparison { plant: options.plant, mix: Mix::default() };
     let seed = options.seed.unwrap_or(1);
     trouble::watch();
@@ -101,7 +101,7 @@ fn compare_all(options: Options) -> ExitCode {
         Extent::Cases(count) => comparison.seed(seed, count, None).map(|_| ()),
         Extent::One(number) => comparison.case(seed, number),
         Extent::Time(time) => comparison.seeds(options.seed.unwrap_or_else(clock_seed), time),
-        Extent::Plants => Ok(()),
+        Extent::Plants => return print_plants(),
     };
     match compared {
         Ok(()) => comparison.end(),
@@ -122,8 +122,7 @@ fn print_plants() -> ExitCode {
 fn main() -> ExitCode {
     let words: Vec<String> = env::args().skip(1).collect();
     match options::parse(&words) {
-        Ok(options) if options.extent == Extent::Plants => print_plants(),
-        Ok(options) => compare_all(options),
+        Ok(options) => run(options),
         Err(why) => {
             eprintln!("{why}\n{}", options::USAGE);
             ExitCode::from(NOT_UNDERSTOOD)

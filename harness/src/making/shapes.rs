@@ -234,7 +234,7 @@ fn full_ring(random: &mut Random) -> Paths {
     let mut paths = Paths::new();
     for (v, u) in circle(&vertices) {
         paths.insert(v, vec![vec![v, u, 0]]);
-        block(random, &mut paths, v, u, MOST_PATHS - 1);
+        add_long(random, &mut paths, v, u, MOST_PATHS - 1);
     }
     paths
 }
@@ -301,8 +301,8 @@ fn changed(random: &mut Random, line: &[u8], stranger: u8) -> Vec<u8> {
 
 // ---- stages
 
-/// Paths of 12 hops through a vertex that settles on its direct path, so that none stays compatible.
-fn block(random: &mut Random, paths: &mut Paths, owner: u8, through: u8, count: usize) {
+/// Paths of 12 hops through a vertex, none of which stays compatible once that has settled on its direct path.
+fn add_long(random: &mut Random, paths: &mut Paths, owner: u8, through: u8, count: usize) {
     let others: Vec<u8> = owners().into_iter().filter(|&v| v != owner && v != through).collect();
     let mut missing = count;
     while missing > 0 {
@@ -321,7 +321,7 @@ fn staged(random: &mut Random, vertices: &[u8], each_has: usize) -> Paths {
     paths.insert(first, vec![vec![first, 0]]);
     for pair in vertices.windows(2) {
         let (u, v) = (pair[0], pair[1]);
-        block(random, &mut paths, v, first, each_has.saturating_sub(2));
+        add_long(random, &mut paths, v, first, each_has.saturating_sub(2));
         add(&mut paths, vec![v, u, 0], MOST_PATHS);
         add(&mut paths, vec![v, 0], MOST_PATHS);
     }
