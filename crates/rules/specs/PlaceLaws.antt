@@ -16,11 +16,11 @@ use Rattle.rules.specs.Table.{pathsOf, listens}
 use Rattle.rules.specs.Refusals.{Refusal, refusal}
 use Rattle.rules.specs.Machine.{Pair, heardFault}
 use Rattle.rules.specs.Run.{pairsIn}
-use Rattle.rules.specs.Answers.{scheduleBad, firstBadPair, stepRefusal, runRefusal}
+use Rattle.rules.specs.Answers.{scheduleBad, firstBadPair, checkRefusal, stepRefusal, runRefusal}
 use Rattle.rules.specs.Accepted.{told}
 use Rattle.rules.specs.TableLaws.{at}
 use Rattle.rules.specs.ScheduleLaws.{pairs-length}
-use Rattle.rules.specs.AnswerLaws.{step-refused-length, step-refused-table, step-refused-heard, step-refused-pair, step-accepted, run-refused-length, run-refused-sums, run-refused-table, run-refused-heard, run-refused-schedule, run-refused-pair, run-accepted}
+use Rattle.rules.specs.AnswerLaws.{refused-rows, refused-ring, lent-right, step-refused-length, step-refused-table, step-refused-heard, step-refused-pair, step-accepted, run-refused-length, run-refused-sums, run-refused-table, run-refused-heard, run-refused-schedule, run-refused-pair, run-accepted}
 
 -- a refusal at k has the place k
 place-told : (o : Option Refusal) (n k : ℕ) (r : Refusal) → o ≡ at n k → o ≡ some r → r .place ≡ k
@@ -42,6 +42,14 @@ pair-under t s k e = omega (arith, first-in-under _ (pairsIn s) 0 k e, pairs-len
 short-schedule : (s : List ℕ) → scheduleBad s ≡ false → length s ≤ 32768
 unfolding scheduleBad
 short-schedule s e = ltb-false 32768 (length s) (or-none (outside 0 0 (length s % 2)) (ltb 32768 (length s)) e .1)
+
+pub check-place : (t rows ring : List ℕ) (r : Refusal) → checkRefusal t rows ring ≡ some r → r .place < 65536
+check-place t rows ring r e =
+    by-equal (length rows) 1024
+    (λ n. by-equal (length ring) 64
+    (λ m. let z : refusal t ≡ some r = sym (lent-right t rows ring n m) ∙ e in omega (arith, told t r z .place))
+    (λ m. omega (arith, place-told _ 1 0 r (refused-ring t rows ring m) e)))
+    (λ n. omega (arith, place-told _ 1 0 r (refused-rows t rows ring n) e))
 
 module _ (t heard : List ℕ) (p : Pair) (r : Refusal) (e : stepRefusal t heard p ≡ some r) where
   abbrev Small : Type 0
