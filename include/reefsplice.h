@@ -6,7 +6,8 @@
    Every entry
    - takes any bytes and any lengths, always returns, and keeps nothing from one call to the next;
    - returns 0 where it accepts, otherwise a code: the refusal's number plus 256 times its place;
-   - where it accepts, fills what it is lent for writing as its declaration says, whatever stood there before;
+   - where it accepts, leaves in each buffer what its declaration says; what stood in rows, ring, sums and numbers
+     before makes no difference;
    - where it refuses, changes no byte of anything it is lent, numbers and sums too;
    - never changes a table or a schedule.
 
@@ -45,7 +46,8 @@ enum { REEFSPLICE_ROW_STAGE = 0, REEFSPLICE_ROW_RANK = 1, REEFSPLICE_ROW_HOPS = 
 #define REEFSPLICE_RING_BYTES 64
 
 /* The heard state's byte at 64 times v plus u is what v last heard from u: 0 for nothing, otherwise the rank of that
-   path of u; for u = 0 the value 1 means the path (0). All zeros is valid for every table. */
+   path of u; for u = 0 the value 1 means the path (0). All zeros is valid for every table. A vertex chooses its best
+   path whose rest is what it last heard from the next hop; its standing is 17 minus the rank of its choice, or 0. */
 #define REEFSPLICE_HEARD_BYTES 4096
 
 /* A schedule is a list of pairs, two bytes each, listener first; the empty one is fine. */
@@ -110,8 +112,8 @@ uint64_t reefsplice_check(const uint8_t *table, size_t table_len, uint8_t *rows,
 
 /* One step: the listener hears the speaker's present choice. Refuses with 1 to 12 and 14; 1 where heard or numbers
    have another length than REEFSPLICE_HEARD_BYTES, REEFSPLICE_NUMBERS_BYTES. Where it accepts, the heard byte at 64
-   times the listener plus the speaker is that choice and every other is as it was; the numbers are the movement, then
-   zeros. */
+   times the listener plus the speaker is the rank of that choice (0 for none, 1 for vertex 0's) and every other is as
+   it was; the numbers are the movement, then zeros. */
 uint64_t reefsplice_step(const uint8_t *table, size_t table_len, uint8_t *heard, size_t heard_len, uint8_t listener,
                          uint8_t speaker, uint8_t *numbers, size_t numbers_len);
 
