@@ -34,6 +34,12 @@ def build_planted(name, sources, old, new):
     return build(name, *sources[:-1], planted)
 
 
+def functions():
+    """The names of the library's functions."""
+    listed = subprocess.run(["nm", LIBRARY], cwd=ROOT, check=True, capture_output=True, text=True).stdout
+    return {line.split()[-1] for line in listed.splitlines() if line[17:18] in ("t", "T")}
+
+
 def run(*words, **variables):
     """The status and what a program says, standard error too."""
     how = {"stdin": subprocess.DEVNULL, "stdout": subprocess.PIPE, "stderr": subprocess.STDOUT, "timeout": LONGEST}
