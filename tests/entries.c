@@ -12,7 +12,7 @@
 /* The tables of the page, by their numbers there; table 1 is empty. */
 static const uint8_t table_2[] = {ONE_HOP(1, 1, 0)};
 static const uint8_t table_3[] = {TWO_HOPS(1, 1, 2, 0), ONE_HOP(2, 1, 0), TWO_HOPS(1, 2, 1, 0), ONE_HOP(2, 2, 0)};
-static const uint8_t table_4[] = {TWO_HOPS(1, 1, 2, 0), ONE_HOP(2, 1, 0), TWO_HOPS(1, 2, 3, 0),
+static const uint8_t table_4[] = {TWO_HOPS(1, 1, 2, 0), ONE_HOP(2, 1, 0),     TWO_HOPS(1, 2, 3, 0),
                                   ONE_HOP(2, 2, 0),     TWO_HOPS(1, 3, 1, 0), ONE_HOP(2, 3, 0)};
 static const uint8_t table_5[] = {ONE_HOP(1, 1, 0), TWO_HOPS(1, 2, 3, 0), TWO_HOPS(2, 2, 1, 0),
                                   ONE_HOP(3, 2, 0), TWO_HOPS(1, 3, 2, 0), ONE_HOP(2, 3, 0)};
@@ -252,8 +252,10 @@ static void hold_other_lengths(enum entry entry, enum lent lent, size_t right, c
 static void hold_all_other_lengths(enum entry entry)
 {
     static const char *const names[LENT][3] = {
-        [HEARD] = {"heard-0", "heard-4095", "heard-4097"},   [ROWS] = {"rows-0", "rows-1023", "rows-1025"},
-        [RING] = {"ring-0", "ring-63", "ring-65"},           [SUMS] = {"sums-0", "sums-255", "sums-257"},
+        [HEARD] = {"heard-0", "heard-4095", "heard-4097"},
+        [ROWS] = {"rows-0", "rows-1023", "rows-1025"},
+        [RING] = {"ring-0", "ring-63", "ring-65"},
+        [SUMS] = {"sums-0", "sums-255", "sums-257"},
         [NUMBERS] = {"numbers-0", "numbers-31", "numbers-33"},
     };
     static const size_t right[LENT] = {[HEARD] = 4096, [ROWS] = 1024, [RING] = 64, [SUMS] = 256, [NUMBERS] = 32};
@@ -362,8 +364,8 @@ struct stray {
 
 /* In table 7 the pairs (1,0), (2,1), (2,0) and (3,2) listen, and no number wraps onto them. */
 static const struct stray strays[] = {
-    {"pair-1-2", 1, 2}, {"pair-0-0", 0, 0}, {"pair-4-0", 4, 0}, {"pair-65-0", 65, 0}, {"pair-1-64", 1, 64},
-    {"pair-0-128", 0, 128}, {"pair-255-255", 255, 255},
+    {"pair-1-2", 1, 2},   {"pair-0-0", 0, 0},     {"pair-4-0", 4, 0},         {"pair-65-0", 65, 0},
+    {"pair-1-64", 1, 64}, {"pair-0-128", 0, 128}, {"pair-255-255", 255, 255},
 };
 
 static void hold_stray_step(const struct stray *stray)

@@ -17,8 +17,8 @@ static void hold(int is_right, const char *what)
 
 static void hold_words(void)
 {
-    static const uint8_t words[] = {0, 0, 0, 0,     4, 3, 2, 1,       255, 255, 255, 127, 0, 0, 0, 128,
-                                    1, 0, 0, 128,   240, 255, 255, 255, 255, 255, 255, 255};
+    static const uint8_t words[7 * 4] = "\0\0\0\0" "\4\3\2\1" "\xff\xff\xff\x7f" "\0\0\0\x80" "\1\0\0\x80"
+                                        "\xf0\xff\xff\xff" "\xff\xff\xff\xff";
     static const uint32_t plain[] = {0, 0x01020304, 0x7fffffff, 0x80000000, 0x80000001, 0xfffffff0, 0xffffffff};
     static const int32_t with_sign[] = {0, 0x01020304, INT32_MAX, INT32_MIN, -INT32_MAX, -16, -1};
     for (size_t i = 0; i < sizeof words / 4; i++) {
