@@ -40,11 +40,6 @@ def build_libraries():
     BUILT.mkdir(parents=True, exist_ok=True)
 
 
-@functools.cache
-def build_entries():
-    build(["rt", "staticlib", "reefsplice"])
-
-
 def build_driver(place, *sources, flags=()):
     """A C program over the proved code."""
     build_libraries()
