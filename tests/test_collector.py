@@ -1,8 +1,10 @@
 """The example collector, the header and the library as a C programmer gets them: the collector's stored outputs, its
 answers on every sample and on runs that are cut off, the header by itself, and no error under a memory checker."""
 
+import os
 import re
 import shlex
+import shutil
 import subprocess
 import tempfile
 import unittest
@@ -220,17 +222,38 @@ class Header(unittest.TestCase):
         self.assertEqual(linking.run(linking.build("header_helpers", "tests/header_helpers.c")), (0, "0 failed\n"))
 
 
-class Linking(unittest.TestCase):
+# Stands in for rt where the library is built already, since a second proof of it would tell nothing new.
+RT = """#!/bin/sh
+[ "$*" = "staticlib reefsplice" ] && mkdir -p target/staticlib && cp '%s' target/staticlib/
+"""
+
+
+class Linking(Collector):
+    """The front in a folder of its own, whose name has a space."""
+
+    def setUp(self):
+        super().setUp()
+        self.home, tools = self.folder / "a home", self.folder / "tools"
+        for folder in ("include", "examples"):
+            shutil.copytree(ROOT / folder, self.home / folder)
+        shutil.copy(ROOT / "reefsplice", self.home)
+        (self.home / "crates").mkdir()
+        (self.home / "crates.txt").write_text("")
+        tools.mkdir()
+        (tools / "rt").write_text(RT % (ROOT / linking.LIBRARY))
+        (tools / "rt").chmod(0o755)
+        self.path = f"{tools}:{os.environ['PATH']}"
+
     def test_the_front_tells_how_to_link(self):
         """The line that `lib` prints is run as it stands, in another folder."""
-        done = subprocess.run([ROOT / "reefsplice", "lib"], capture_output=True, text=True, check=True)
-        told = dict(line.split(" ", 1) for line in done.stdout.splitlines())
-        self.assertEqual(Path(told["header"]), HEADER)
-        self.assertTrue(Path(told["library"]).is_file())
-        with tempfile.TemporaryDirectory() as folder:
-            subprocess.run(shlex.split(told["link"]), cwd=folder, check=True)
-            words = [Path(folder) / "collector", *files_of("chain.case9")]
-            self.assertEqual(linking.run(*words), (0, (EXAMPLES / "collector.chain.case9.txt").read_text()))
+        how = {"env": os.environ | {"PATH": self.path}, "capture_output": True, "text": True, "check": True}
+        front = subprocess.run([self.home / "reefsplice", "lib"], **how)
+        told = dict(line.split(" ", 1) for line in front.stdout.splitlines())
+        self.assertEqual(Path(told["header"]).read_text(), HEADER.read_text())
+        self.assertEqual(Path(told["library"]).read_bytes(), (ROOT / linking.LIBRARY).read_bytes())
+        subprocess.run(shlex.split(told["link"]), cwd=self.folder, check=True)
+        stored = (EXAMPLES / "collector.chain.case9.txt").read_text()
+        self.assertEqual(linking.run(self.folder / "collector", *files_of("chain.case9")), (0, stored))
 
 
 class Checked(unittest.TestCase):
