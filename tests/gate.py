@@ -45,6 +45,36 @@ def run(log, words):
     return status, path.read_text(encoding="utf-8", errors="replace")
 
 
+# ---- the tools
+
+# What the tests need beside rt, gcc, cargo and python3; each is a Debian package of the same name.
+TOOLS = ("valgrind", "g++")
+
+
+def missing_tools():
+    return [tool for tool in TOOLS if shutil.which(tool) is None]
+
+
+def install_tools():
+    """Installs what is missing; the lists of packages are fetched only where it cannot be done without."""
+    missing, said = missing_tools(), ""
+    if missing:
+        options = ["--yes", "--no-install-recommends"]
+        install = ["env", "DEBIAN_FRONTEND=noninteractive", "apt-get", "install", *options, *missing]
+        status, said = run("tools", install)
+        if status != 0:
+            run("tools-update", ["env", "apt-get", "update"])
+            said = run("tools", install)[1]
+    return judge_tools(missing_tools(), said)
+
+
+def judge_tools(missing, said):
+    """One test for each tool; apt-get's last line tells why one could not be installed."""
+    why = (said.splitlines() or ["nothing"])[-1]
+    failures = [f"tools: {tool} is not there, and apt-get cannot install it; its last line: {why}" for tool in missing]
+    return Counts(len(TOOLS) - len(missing), failures)
+
+
 # ---- rt ci, the formatting, the must-fail edits and the public contracts
 
 
@@ -185,6 +215,7 @@ def first_words(why):
 
 def parts():
     """Each part's name, and the function that runs and judges it."""
+    yield "tools", install_tools
     yield "rt ci", lambda: judge_rt_ci(*run("rt-ci", ["rt", "ci"]))
     yield "formatting", lambda: judge_formatting(*run("formatting", ["rt", "fmt", "--check"]))
     yield "must-fail logs", lambda: judge_edits(ROOT)

@@ -1,4 +1,5 @@
-"""The front: its help, its demo, and that it proves each program once for given sources and never runs an old one."""
+"""The front: its help, its demo, and that it proves each program and the library once for given sources and never uses
+an old one."""
 
 import os
 import shutil
@@ -33,7 +34,7 @@ class Front(unittest.TestCase):
         status, out, said = front()
         self.assertEqual((status, said), (0, ""))
         self.assertTrue(out.startswith("usage: ./reefsplice COMMAND\n"))
-        commands = ["check < TABLE", "run TABLE SCHEDULE", "demo"]
+        commands = ["check < TABLE", "run TABLE SCHEDULE", "demo", "lib"]
         for command in (*commands, "second-check < TABLE", "second-run TABLE SCHEDULE", "help"):
             self.assertIn(f"\n  {command} ", out)
         self.assertEqual(front("help"), (0, out, ""))
@@ -68,11 +69,12 @@ class Front(unittest.TestCase):
 
 
 # Stands in for rt: it proves nothing, reads all that it is given, and makes a program that prints the source, its
-# arguments and its input; a source that says `wrong` is not proved.
+# arguments and its input, and a library that is the source; a source that says `wrong` is not proved.
 RT = """#!/bin/sh
 echo "rt $*: $(cat)"
-mkdir -p target/bin
+mkdir -p target/bin target/staticlib
 ! grep -q wrong crates/a/src/lib.rt || exit 1
+cp crates/a/src/lib.rt "target/staticlib/lib$2.a"
 printf '#!/bin/sh\\necho %s "$@"\\ncat\\n' "$(cat crates/a/src/lib.rt)" >"target/bin/$2"
 chmod +x "target/bin/$2"
 """
@@ -95,13 +97,14 @@ class Building(unittest.TestCase):
         (self.tools / "rt").chmod(0o755)
 
     def call(self, *words, source=None, tools=True):
-        """Gives the status, the text, and whether the program was built."""
+        """Gives the status, the text, and whether rt was called for it."""
         if source:
             self.source.write_text(source)
         path = f"{self.tools}:{os.environ['PATH']}" if tools else os.defpath
         how = {"path": self.home / "reefsplice", "env": os.environ | {"PATH": path}}
         status, out, said = front(*words, table=b"input\n", **how)
-        return status, out, f"rt check {words[0]}_program: \n" in said
+        made = "staticlib reefsplice" if words[0] == "lib" else f"check {words[0]}_program"
+        return status, out, f"rt {made}: \n" in said
 
     def check(self, source=None, tools=True):
         return self.call("check", source=source, tools=tools)
@@ -150,17 +153,33 @@ class Building(unittest.TestCase):
         self.assertEqual(self.check(), (0, "two\ninput\n", True))
         self.assertEqual(self.call(*run, tools=False), (0, "two a table -n\ninput\n", False))
 
+    def test_the_library_is_built_once(self):
+        library = self.home / ".build/lib/libreefsplice.a"
+        for source, tools, is_built in (("one", True, True), (None, False, False), ("two", True, True)):
+            status, out, built = self.call("lib", source=source, tools=tools)
+            self.assertEqual((status, built), (0, is_built))
+            self.assertEqual(library.read_text(), self.source.read_text())
+        header, link = f"{self.home}/include/reefsplice.h", f'gcc -I"{self.home}/include" '
+        self.assertEqual([line.split()[0] for line in out.splitlines()], ["library", "header", "link"])
+        for words in (f"library {library}\n", f"header {header}\n", f"link {link}", f' "{library}" -o collector\n'):
+            self.assertIn(words, out)
+
+    def test_a_library_that_is_not_proved_goes(self):
+        self.call("lib", source="one")
+        self.assertEqual(self.call("lib", source="wrong"), (1, "", True))
+        self.assertFalse((self.home / ".build/lib/libreefsplice.a").exists())
+
     def test_a_missing_argument_builds_nothing(self):
         self.assertEqual(self.call("run", "table", source="one"), (2, "", False))
 
     def test_says_what_failed(self):
         self.source.write_text("wrong")
         environment = os.environ | {"PATH": f"{self.tools}:{os.environ['PATH']}"}
-        for words in (["check"], ["demo"], ["run", "table", "schedule"]):
+        named = {"check": "check program", "demo": "check program", "run": "run program", "lib": "library"}
+        for words in (["check"], ["demo"], ["run", "table", "schedule"], ["lib"]):
             status, out, said = front(*words, path=self.home / "reefsplice", env=environment)
             self.assertEqual((status, out), (1, ""))
-            name = "run" if words[0] == "run" else "check"
-            self.assertIn(f"\nreefsplice: the {name} program is not proved", said)
+            self.assertIn(f"\nreefsplice: the {named[words[0]]} is not proved", said)
 
     def test_without_rt(self):
         self.assertEqual(self.check("one", tools=False), (1, "", False))

@@ -3,6 +3,7 @@
 import tempfile
 import unittest
 from pathlib import Path
+from unittest import mock
 
 import gate
 
@@ -70,6 +71,44 @@ class Edits(Folder):
         self.judged(GOOD)
         counts = self.judged(MISFIT, "other", "other.edit")
         self.assertEqual((counts.passed, len(counts.failures)), (1, 1))
+
+
+class Tools(unittest.TestCase):
+    """With a stand-in for apt-get: each call ends with the next status, and 0 brings what was missing."""
+
+    def installed(self, missing, statuses):
+        """The counts, and what apt-get was called for."""
+        left, called = [*missing], []
+
+        def run(log, words):
+            status = statuses.pop(0)
+            called.append(words[words.index("apt-get") + 1])
+            if status == 0 and called[-1] == "install":
+                left.clear()
+            return status, "Reading package lists...\nE: Unable to locate package\n"
+
+        with mock.patch.multiple(gate, missing_tools=lambda: [*left], run=run):
+            return str(gate.install_tools()), called
+
+    def test_nothing_is_missing(self):
+        self.assertEqual(self.installed([], []), ("2 passed, 0 failed", []))
+
+    def test_a_plain_install(self):
+        self.assertEqual(self.installed(["g++"], [0]), ("2 passed, 0 failed", ["install"]))
+
+    def test_the_lists_are_fetched_where_it_fails(self):
+        called = ["install", "update", "install"]
+        self.assertEqual(self.installed(["g++"], [100, 0, 0]), ("2 passed, 0 failed", called))
+        self.assertEqual(self.installed(["g++"], [100, 100, 100]), ("1 passed, 1 failed", called))
+
+    def test_what_is_still_missing_is_named(self):
+        why = "is not there, and apt-get cannot install it; its last line: E: no"
+        failures = [f"tools: {tool} {why}" for tool in ("valgrind", "g++")]
+        self.assertEqual(gate.judge_tools(["valgrind", "g++"], "x\nE: no\n"), (0, failures, ()))
+
+    def test_a_missing_tool_is_seen(self):
+        with mock.patch.object(gate, "TOOLS", ("sh", "no-such-tool")):
+            self.assertEqual(gate.missing_tools(), ["no-such-tool"])
 
 
 class RtCi(unittest.TestCase):
