@@ -1,0 +1,216 @@
+-- The published examples of paper 001, as theorems about the rules.
+use Prim.Native.Nat.{ℕ, suc, _<_, _+_, _*_}
+use mathlib.Core.Path.{_≡_, refl}
+use mathlib.Core.Logic.{_⊎_, inl, inr}
+use mathlib.Core.Bool.{true, false}
+use mathlib.Core.List.{List, [], _∷_, _++_, map}
+use mathlib.Core.Option.{none}
+use native.Mathlib.Omega.{arith}
+use lib.ListN.{getD, length, take, drop}
+use Rattle.lists.specs.Search.{outside, firstFrom, anyBelow, countBelow, thoseBelow, anyIn, firstIn, elem, same, maxBelow, twice}
+use Rattle.lists.specs.NumberLaws.{by-number}
+use Rattle.lists.specs.Fill.{tabulate, blocks, padded}
+use Rattle.lists.specs.Fold.{foldLeft}
+use Rattle.rules.specs.Table.{Path, recordAt, records, rankOf, hopsOf, pathOf, ownerOf, owned, pathsBelow, pathsOf, present, longest, nextHop, rest, first, listens, listensAt}
+use Rattle.rules.specs.Refusals.{_orElse_, hopsBad, vertexBad, unusedOf, fillerBad, twiceBad, lastBad, ownerBad, rankDue, rankBad, pathBad, inRecord, rule, recordRules, firstBroken, fault, faulty, firstBad, tooLong, ragged, refusal, refusedIf, refusedAt, badRecord}
+use Rattle.rules.specs.Greedy.{isSettled, compatible, atStart, best, judged, stage, settledList, settled, enters, quiet, stageCount, stageOf, stuckIn, follows, fromVertex, beforeVertex, closedPart, lowestOf, turned, ringFrom}
+use Rattle.rules.specs.Stable.{Stable, extends, bestGiven}
+use Rattle.rules.specs.Report.{placeIn, rankIn, rowBytes, row, rowAt, vertices, pathShown, report}
+use Rattle.rules.specs.Machine.{offsetOf, speaks, byteFor, pathFor, badAt, badByte, heardFault, lastHeard, choice, step}
+use Rattle.rules.specs.Run.{pairsIn}
+use Rattle.rules.specs.Examples.{Example, check, checked, lineOf, checkedOf, outcome, recordBytes, blockBytes, tableBytes}
+use Rattle.theorems.specs.Claims.{Rests, storedByte}
+use Rattle.theorems.specs.RestingPoints.{rests-resting, resting-stable}
+use Rattle.theorems.specs.PublishedLaws.{Stores, otherStored, StableState, Routers, unstable, everyDraw, samePaths, Only, tested-stable, stable-named}
+use Rattle.theorems.specs.Published.{disagree, badGadget, bleedinEdge, diSafeGree, disagreeBytes, badGadgetBytes, bleedinEdgeBytes, diSafeGreeBytes, assigned, routersPaths, disagreeFirst, disagreeSecond, bleedinStable, diSafeGreeStable, Row, table2, table4Begin, table4Moment, table4End, table4, twoFirst, oneFirst, badGadgetRound, badGadgetRounds, fourFirst, secondFirst, bleedinRound, diSafeGreeRows, atOnce, oneByOne, afterRows, selectedIn, selectedAfter, AtOnce, OneByOne, nothingHeard, rowThree}
+
+-- What the first check says of each: a line is a router, its stage (255 for stuck), and its rank and path; then stages, longest and ring.
+-- 001, section 4: "At the first iteration, vertex 1 enters the stable set .. At the second iteration, the algorithm forcedly stops."
+unfoldable pub checks : List Example
+checks =
+    record {
+      input = check disagree;
+      expected = checked ((1 ∷ 255 ∷ 1 ∷ 1 ∷ 2 ∷ 0 ∷ []) ∷ (2 ∷ 255 ∷ 1 ∷ 2 ∷ 1 ∷ 0 ∷ []) ∷ []) 0 2 (1 ∷ 2 ∷ []);
+    }
+    ∷ record {
+      input = check badGadget;
+      expected = checked ((1 ∷ 255 ∷ 1 ∷ 1 ∷ 3 ∷ 0 ∷ []) ∷ (2 ∷ 255 ∷ 1 ∷ 2 ∷ 1 ∷ 0 ∷ []) ∷ (3 ∷ 255 ∷ 1 ∷ 3 ∷ 2 ∷ 0 ∷ []) ∷ []) 0 2 (1 ∷ 3 ∷ 2 ∷ []);
+    }
+    ∷ record {
+      input = check bleedinEdge;
+      expected = checked ((1 ∷ 255 ∷ 1 ∷ 1 ∷ 2 ∷ 4 ∷ 0 ∷ []) ∷ (2 ∷ 255 ∷ 1 ∷ 2 ∷ 4 ∷ 3 ∷ 0 ∷ []) ∷ (3 ∷ 255 ∷ 1 ∷ 3 ∷ 2 ∷ 1 ∷ 0 ∷ []) ∷ (4 ∷ 255 ∷ 1 ∷ 4 ∷ 3 ∷ 0 ∷ []) ∷ []) 0 3 (2 ∷ 4 ∷ 3 ∷ []);
+    }
+    ∷ record {
+      input = check diSafeGree;
+      expected = checked ((1 ∷ 1 ∷ 1 ∷ 1 ∷ 0 ∷ []) ∷ (2 ∷ 255 ∷ 1 ∷ 2 ∷ 3 ∷ 0 ∷ []) ∷ (3 ∷ 255 ∷ 1 ∷ 3 ∷ 2 ∷ 0 ∷ []) ∷ []) 1 2 (2 ∷ 3 ∷ []);
+    }
+    ∷ []
+
+pub checked-as-published : map (λ e. outcome (e .input)) checks ≡ map (λ e. e .expected) checks
+unfolding refusedIf refusedAt _orElse_ outside firstFrom anyBelow
+    countBelow thoseBelow anyIn firstIn elem same maxBelow tabulate blocks padded recordAt records rankOf
+    hopsOf pathOf ownerOf owned pathsBelow pathsOf present longest nextHop rest first listens listensAt hopsBad vertexBad
+    unusedOf fillerBad twice twiceBad lastBad ownerBad rankDue rankBad pathBad inRecord rule recordRules firstBroken
+    fault faulty firstBad badRecord tooLong ragged refusal isSettled compatible atStart best judged stage settledList settled
+    enters quiet stageCount stageOf stuckIn follows fromVertex beforeVertex closedPart lowestOf turned ringFrom
+    placeIn rankIn rowBytes row report rowAt vertices pathShown recordBytes blockBytes tableBytes lineOf checkedOf outcome
+    disagree badGadget bleedinEdge diSafeGree checks
+checked-as-published = refl
+
+-- What is found by computing.
+pub record Computed : Type 0 where
+  pub disagreeRouters : Routers disagreeBytes 2
+  pub badGadgetRouters : Routers badGadgetBytes 3
+  pub bleedinRouters : Routers bleedinEdgeBytes 4
+  pub diSafeGreeRouters : Routers diSafeGreeBytes 3
+  -- what 001 calls stable passes the test ..
+  pub firstPasses : unstable disagreeBytes 2 (assigned disagreeFirst) ≡ false
+  pub secondPasses : unstable disagreeBytes 2 (assigned disagreeSecond) ≡ false
+  pub bleedinPasses : unstable bleedinEdgeBytes 4 (assigned bleedinStable) ≡ false
+  pub diSafeGreePasses : unstable diSafeGreeBytes 3 (assigned diSafeGreeStable) ≡ false
+  -- .. and nothing else does
+  pub disagreeDraws : Only disagreeBytes 2 (disagreeFirst ∷ disagreeSecond ∷ [])
+  pub badGadgetDraws : Only badGadgetBytes 3 []
+  pub bleedinDraws : Only bleedinEdgeBytes 4 (bleedinStable ∷ [])
+  pub diSafeGreeDraws : Only diSafeGreeBytes 3 (diSafeGreeStable ∷ [])
+  -- row 3's state is valid
+  pub rowThreeLong : length rowThree ≡ 4096
+  pub rowThreeFine : heardFault (pathsOf bleedinEdgeBytes) rowThree ≡ none
+
+pub computed : Computed
+unfolding outside anyBelow anyIn firstIn elem same maxBelow twice tabulate padded firstFrom foldLeft thoseBelow
+    refusedIf refusedAt _orElse_ recordAt records rankOf hopsOf pathOf ownerOf owned pathsBelow pathsOf present nextHop rest first listens listensAt
+    hopsBad vertexBad unusedOf fillerBad twiceBad lastBad ownerBad rankDue rankBad pathBad inRecord rule recordRules firstBroken
+    fault faulty firstBad badRecord tooLong ragged refusal extends bestGiven placeIn speaks badAt badByte heardFault
+    recordBytes blockBytes tableBytes disagree badGadget bleedinEdge diSafeGree disagreeBytes badGadgetBytes bleedinEdgeBytes diSafeGreeBytes
+    assigned disagreeFirst disagreeSecond bleedinStable diSafeGreeStable nothingHeard rowThree unstable everyDraw samePaths
+computed =
+    record {
+      disagreeRouters = record { accepted = refl; others = refl; all = refl };
+      badGadgetRouters = record { accepted = refl; others = refl; all = refl };
+      bleedinRouters = record { accepted = refl; others = refl; all = refl };
+      diSafeGreeRouters = record { accepted = refl; others = refl; all = refl };
+      firstPasses = refl;
+      secondPasses = refl;
+      bleedinPasses = refl;
+      diSafeGreePasses = refl;
+      disagreeDraws = refl;
+      badGadgetDraws = refl;
+      bleedinDraws = refl;
+      diSafeGreeDraws = refl;
+      rowThreeLong = refl;
+      rowThreeFine = refl;
+    }
+
+-- What is found by computing of the rows.
+pub record Followed : Type 0 where
+  -- Table 2, all pairs of a row at one moment: the choices come back. One after the other they end in a stable state.
+  pub disagreeMoments : AtOnce disagreeBytes 2 nothingHeard table2
+  pub disagreeTwoFirst : OneByOne disagreeBytes 2 nothingHeard twoFirst
+  pub disagreeOneFirst : OneByOne disagreeBytes 2 nothingHeard oneFirst
+  pub disagreeEndsFirst : Stores disagreeBytes disagreeFirst (afterRows (oneByOne (pathsOf disagreeBytes)) nothingHeard twoFirst)
+  pub disagreeEndsSecond : Stores disagreeBytes disagreeSecond (afterRows (oneByOne (pathsOf disagreeBytes)) nothingHeard oneFirst)
+  -- BAD GADGET: the third round ends in the state of the first
+  pub badGadgetTurns : OneByOne badGadgetBytes 3 nothingHeard badGadgetRounds
+  pub badGadgetAgain : afterRows (oneByOne (pathsOf badGadgetBytes)) nothingHeard badGadgetRounds
+      ≡ afterRows (oneByOne (pathsOf badGadgetBytes)) nothingHeard (take 1 badGadgetRounds)
+  -- Table 4, all pairs of a row at one moment: row 9 selects what row 1 does
+  pub edgeMoments : AtOnce bleedinEdgeBytes 4 nothingHeard table4
+  pub edgeAgain : selectedIn (pathsOf bleedinEdgeBytes) 4 (afterRows (atOnce (pathsOf bleedinEdgeBytes)) nothingHeard table4)
+      ≡ selectedIn (pathsOf bleedinEdgeBytes) 4 (afterRows (atOnce (pathsOf bleedinEdgeBytes)) nothingHeard (take 1 table4))
+  -- one by one: rows 1 and 2 from zeros, then row 3 in neither order, and rows 4 to 9 from row 3's state
+  pub edgeBegin : OneByOne bleedinEdgeBytes 4 nothingHeard table4Begin
+  pub edgeFourFirst : OneByOne bleedinEdgeBytes 4 nothingHeard (table4Begin ++ fourFirst ∷ [])
+  pub edgeSecondFirst : OneByOne bleedinEdgeBytes 4 nothingHeard (table4Begin ++ secondFirst ∷ [])
+  pub edgeRowThree : afterRows (atOnce (pathsOf bleedinEdgeBytes)) nothingHeard (table4Begin ++ table4Moment ∷ []) ≡ rowThree
+  pub edgeEnd : OneByOne bleedinEdgeBytes 4 rowThree (table4End ++ drop 1 table4Begin)
+  -- a round of all pairs from zeros ends in the stable state of Table 5
+  pub edgeRound : OneByOne bleedinEdgeBytes 4 nothingHeard (bleedinRound ∷ [])
+  pub edgeRests : Stores bleedinEdgeBytes bleedinStable (afterRows (oneByOne (pathsOf bleedinEdgeBytes)) nothingHeard (bleedinRound ∷ []))
+  -- DI-SAFE-GREE ends in its solution
+  pub diSafeGreeGoes : OneByOne diSafeGreeBytes 3 nothingHeard diSafeGreeRows
+  pub diSafeGreeRests : Stores diSafeGreeBytes diSafeGreeStable (afterRows (oneByOne (pathsOf diSafeGreeBytes)) nothingHeard diSafeGreeRows)
+
+pub followed : Followed
+unfolding outside anyBelow thoseBelow anyIn firstIn elem same tabulate foldLeft padded recordAt records rankOf
+    hopsOf pathOf ownerOf owned pathsBelow pathsOf nextHop rest first listens listensAt extends bestGiven placeIn offsetOf speaks byteFor pathFor
+    lastHeard choice step pairsIn recordBytes blockBytes tableBytes storedByte otherStored
+    disagree badGadget bleedinEdge diSafeGree disagreeBytes badGadgetBytes bleedinEdgeBytes diSafeGreeBytes
+    assigned routersPaths disagreeFirst disagreeSecond bleedinStable diSafeGreeStable table2 table4Begin table4Moment table4End table4
+    twoFirst oneFirst badGadgetRound badGadgetRounds fourFirst secondFirst bleedinRound diSafeGreeRows
+    atOnce oneByOne afterRows selectedIn selectedAfter nothingHeard rowThree
+followed =
+    record {
+      disagreeMoments = refl;
+      disagreeTwoFirst = refl;
+      disagreeOneFirst = refl;
+      disagreeEndsFirst = record { long = refl; same = refl };
+      disagreeEndsSecond = record { long = refl; same = refl };
+      badGadgetTurns = refl;
+      badGadgetAgain = refl;
+      edgeMoments = refl;
+      edgeAgain = refl;
+      edgeBegin = refl;
+      edgeFourFirst = refl;
+      edgeSecondFirst = refl;
+      edgeRowThree = refl;
+      edgeEnd = refl;
+      edgeRound = refl;
+      edgeRests = record { long = refl; same = refl };
+      diSafeGreeGoes = refl;
+      diSafeGreeRests = record { long = refl; same = refl };
+    }
+
+-- The two stable states of Table 3, the one of Table 5 and the solution of Table 6: stable in the rules' sense, and no step changes the
+-- heard state that stores them ..
+pub disagree-first : StableState disagreeBytes disagreeFirst
+disagree-first = tested-stable disagreeBytes 2 (computed .disagreeRouters) disagreeFirst (computed .firstPasses)
+
+pub disagree-second : StableState disagreeBytes disagreeSecond
+disagree-second = tested-stable disagreeBytes 2 (computed .disagreeRouters) disagreeSecond (computed .secondPasses)
+
+pub bleedin-edge-stable : StableState bleedinEdgeBytes bleedinStable
+bleedin-edge-stable = tested-stable bleedinEdgeBytes 4 (computed .bleedinRouters) bleedinStable (computed .bleedinPasses)
+
+pub di-safe-gree-stable : StableState diSafeGreeBytes diSafeGreeStable
+di-safe-gree-stable = tested-stable diSafeGreeBytes 3 (computed .diSafeGreeRouters) diSafeGreeStable (computed .diSafeGreePasses)
+
+-- .. and there is no other stable assignment: DISAGREE has the two, ..
+pub disagree-only : (a : ℕ → Path)
+    → Stable (pathsOf disagreeBytes) (present disagreeBytes) a
+    → (routersPaths 2 a ≡ disagreeFirst) ⊎ (routersPaths 2 a ≡ disagreeSecond)
+disagree-only a stable =
+    let named = disagreeFirst ∷ disagreeSecond ∷ [] in
+    let found = stable-named disagreeBytes 2 (computed .disagreeRouters) a stable named (computed .disagreeDraws) in
+    let at : (k : ℕ) → found .0 ≡ k → routersPaths 2 a ≡ getD named k [] = λ k z. rw z at (found .2) in
+    by-number (found .0) (λ z. inl (at 0 z)) (λ k z. inr (at 1 (omega (arith, found .1, z))))
+
+-- .. BAD GADGET has none, so no heard state rests, ..
+pub bad-gadget-none : (a : ℕ → Path) → Stable (pathsOf badGadgetBytes) (present badGadgetBytes) a → ⊥
+bad-gadget-none a stable =
+    let found = stable-named badGadgetBytes 3 (computed .badGadgetRouters) a stable [] (computed .badGadgetDraws) in
+    omega (arith, found .1)
+
+pub bad-gadget-restless : (heard : List ℕ) → Rests badGadgetBytes heard → ⊥
+bad-gadget-restless heard rests =
+    let accepted = computed .badGadgetRouters .accepted in
+    bad-gadget-none (choice (pathsOf badGadgetBytes) heard)
+    (resting-stable badGadgetBytes accepted heard (rests-resting badGadgetBytes accepted heard rests))
+
+-- .. and BLEEDIN-EDGE and DI-SAFE-GREE have one each.
+only-one : (t : List ℕ) (n : ℕ) (ps : List Path)
+    → Routers t n
+    → Only t n (ps ∷ [])
+    → (a : ℕ → Path)
+    → Stable (pathsOf t) (present t) a
+    → routersPaths n a ≡ ps
+only-one t n ps routers draws a stable =
+    let found = stable-named t n routers a stable (ps ∷ []) draws in
+    let z : found .0 ≡ 0 = omega (arith, found .1) in
+    rw z at (found .2)
+
+pub bleedin-edge-only : (a : ℕ → Path) → Stable (pathsOf bleedinEdgeBytes) (present bleedinEdgeBytes) a → routersPaths 4 a ≡ bleedinStable
+bleedin-edge-only = only-one bleedinEdgeBytes 4 bleedinStable (computed .bleedinRouters) (computed .bleedinDraws)
+
+pub di-safe-gree-only : (a : ℕ → Path) → Stable (pathsOf diSafeGreeBytes) (present diSafeGreeBytes) a → routersPaths 3 a ≡ diSafeGreeStable
+di-safe-gree-only = only-one diSafeGreeBytes 3 diSafeGreeStable (computed .diSafeGreeRouters) (computed .diSafeGreeDraws)
