@@ -1,7 +1,7 @@
 -- The published examples of paper 001, as theorems about the rules.
-use Prim.Native.Nat.{ℕ, suc, _<_, _+_, _*_}
-use mathlib.Core.Path.{_≡_, refl}
-use mathlib.Core.Logic.{_⊎_, inl, inr}
+use Prim.Native.Nat.{ℕ, _+_, _*_}
+use mathlib.Core.Path.{_≡_, refl, sym, ap, _∙_, subst}
+use mathlib.Core.Logic.{_⊎_, inl, inr, ⊎-elim}
 use mathlib.Core.Bool.{true, false}
 use mathlib.Core.List.{List, [], _∷_, _++_, map}
 use mathlib.Core.Option.{none}
@@ -9,6 +9,7 @@ use native.Mathlib.Omega.{arith}
 use lib.ListN.{getD, length, take, drop}
 use Rattle.lists.specs.Search.{outside, firstFrom, anyBelow, countBelow, thoseBelow, anyIn, firstIn, elem, same, maxBelow, twice}
 use Rattle.lists.specs.NumberLaws.{by-number}
+use Rattle.lists.specs.Tests.{by-test}
 use Rattle.lists.specs.Fill.{tabulate, blocks, padded}
 use Rattle.lists.specs.Fold.{foldLeft}
 use Rattle.rules.specs.Table.{Path, recordAt, records, rankOf, hopsOf, pathOf, ownerOf, owned, pathsBelow, pathsOf, present, longest, nextHop, rest, first, listens, listensAt}
@@ -18,10 +19,13 @@ use Rattle.rules.specs.Stable.{Stable, extends, bestGiven}
 use Rattle.rules.specs.Report.{placeIn, rankIn, rowBytes, row, rowAt, vertices, pathShown, report}
 use Rattle.rules.specs.Machine.{offsetOf, speaks, byteFor, pathFor, badAt, badByte, heardFault, lastHeard, choice, step}
 use Rattle.rules.specs.Run.{pairsIn}
+use Rattle.rules.specs.PathLaws.{first-head, first-tail}
+use Rattle.rules.specs.MachineLaws.{choice-other, heard-in}
 use Rattle.rules.specs.Examples.{Example, check, checked, lineOf, checkedOf, outcome, recordBytes, blockBytes, tableBytes}
-use Rattle.theorems.specs.Claims.{Rests, storedByte}
+use Rattle.theorems.specs.Claims.{Call, AllAccepted, heardAfter, pairsOf, Rests, storedByte}
+use Rattle.theorems.specs.CallLaws.{all-after, all-range}
 use Rattle.theorems.specs.RestingPoints.{rests-resting, resting-stable}
-use Rattle.theorems.specs.PublishedLaws.{Stores, otherStored, StableState, Routers, unstable, everyDraw, samePaths, Only, tested-stable, stable-named}
+use Rattle.theorems.specs.PublishedLaws.{Stores, otherStored, stored-rests, Crossed, never-crossed, StableState, Routers, unstable, everyDraw, samePaths, Only, tested-stable, stable-named}
 use Rattle.theorems.specs.Published.{disagree, badGadget, bleedinEdge, diSafeGree, disagreeBytes, badGadgetBytes, bleedinEdgeBytes, diSafeGreeBytes, assigned, routersPaths, disagreeFirst, disagreeSecond, bleedinStable, diSafeGreeStable, Row, table2, table4Begin, table4Moment, table4End, table4, twoFirst, oneFirst, badGadgetRound, badGadgetRounds, fourFirst, secondFirst, bleedinRound, diSafeGreeRows, atOnce, oneByOne, afterRows, selectedIn, selectedAfter, AtOnce, OneByOne, nothingHeard, rowThree}
 
 -- What the first check says of each: a line is a router, its stage (255 for stuck), and its rank and path; then stages, longest and ring.
@@ -76,12 +80,23 @@ pub record Computed : Type 0 where
   -- row 3's state is valid
   pub rowThreeLong : length rowThree ≡ 4096
   pub rowThreeFine : heardFault (pathsOf bleedinEdgeBytes) rowThree ≡ none
+  pub rowThreeHeard : (getD rowThree (64 * 2 + 4) 0 ≡ 3) × (getD rowThree (64 * 4 + 2) 0 ≡ 4)
+  pub zerosLong : length nothingHeard ≡ 4096
+  pub zerosHeard : getD nothingHeard (64 * 2 + 4) 0 ≡ 0
+  -- the paths of the routers 2 and 4 of BLEEDIN-EDGE, and what their bytes mean
+  pub twoPaths : pathsOf bleedinEdgeBytes 2 ≡ (2 ∷ 4 ∷ 3 ∷ 0 ∷ []) ∷ (2 ∷ 4 ∷ 0 ∷ []) ∷ (2 ∷ 1 ∷ 0 ∷ []) ∷ (2 ∷ 3 ∷ 0 ∷ []) ∷ []
+  pub fourPaths : pathsOf bleedinEdgeBytes 4 ≡ (4 ∷ 3 ∷ 0 ∷ []) ∷ (4 ∷ 2 ∷ 3 ∷ 0 ∷ []) ∷ (4 ∷ 0 ∷ []) ∷ []
+  pub rankThree : pathFor (pathsOf bleedinEdgeBytes) 4 3 ≡ 4 ∷ 0 ∷ []
+  pub rankFour : pathFor (pathsOf bleedinEdgeBytes) 2 4 ≡ 2 ∷ 3 ∷ 0 ∷ []
+  pub byteTwo : byteFor (pathsOf bleedinEdgeBytes) 2 (2 ∷ 4 ∷ 0 ∷ []) ≡ 2
+  pub byteOne : byteFor (pathsOf bleedinEdgeBytes) 4 (4 ∷ 3 ∷ 0 ∷ []) ≡ 1
+  pub byteOther : byteFor (pathsOf bleedinEdgeBytes) 4 (4 ∷ 2 ∷ 3 ∷ 0 ∷ []) ≡ 2
 
 pub computed : Computed
 unfolding outside anyBelow anyIn firstIn elem same maxBelow twice tabulate padded firstFrom foldLeft thoseBelow
     refusedIf refusedAt _orElse_ recordAt records rankOf hopsOf pathOf ownerOf owned pathsBelow pathsOf present nextHop rest first listens listensAt
     hopsBad vertexBad unusedOf fillerBad twiceBad lastBad ownerBad rankDue rankBad pathBad inRecord rule recordRules firstBroken
-    fault faulty firstBad badRecord tooLong ragged refusal extends bestGiven placeIn speaks badAt badByte heardFault
+    fault faulty firstBad badRecord tooLong ragged refusal extends bestGiven placeIn speaks byteFor pathFor badAt badByte heardFault
     recordBytes blockBytes tableBytes disagree badGadget bleedinEdge diSafeGree disagreeBytes badGadgetBytes bleedinEdgeBytes diSafeGreeBytes
     assigned disagreeFirst disagreeSecond bleedinStable diSafeGreeStable nothingHeard rowThree unstable everyDraw samePaths
 computed =
@@ -100,6 +115,16 @@ computed =
       diSafeGreeDraws = refl;
       rowThreeLong = refl;
       rowThreeFine = refl;
+      rowThreeHeard = (refl, refl);
+      zerosLong = refl;
+      zerosHeard = refl;
+      twoPaths = refl;
+      fourPaths = refl;
+      rankThree = refl;
+      rankFour = refl;
+      byteTwo = refl;
+      byteOne = refl;
+      byteOther = refl;
     }
 
 -- What is found by computing of the rows.
@@ -214,3 +239,71 @@ bleedin-edge-only = only-one bleedinEdgeBytes 4 bleedinStable (computed .bleedin
 
 pub di-safe-gree-only : (a : ℕ → Path) → Stable (pathsOf diSafeGreeBytes) (present diSafeGreeBytes) a → routersPaths 3 a ≡ diSafeGreeStable
 di-safe-gree-only = only-one diSafeGreeBytes 3 diSafeGreeStable (computed .diSafeGreeRouters) (computed .diSafeGreeDraws)
+
+-- What the rows come to one by one: these states rest.
+
+pub disagree-two-first : Rests disagreeBytes (afterRows (oneByOne (pathsOf disagreeBytes)) nothingHeard twoFirst)
+disagree-two-first = stored-rests disagreeBytes _ disagreeFirst disagree-first (followed .disagreeEndsFirst)
+
+pub disagree-one-first : Rests disagreeBytes (afterRows (oneByOne (pathsOf disagreeBytes)) nothingHeard oneFirst)
+disagree-one-first = stored-rests disagreeBytes _ disagreeSecond disagree-second (followed .disagreeEndsSecond)
+
+pub bleedin-edge-rests : Rests bleedinEdgeBytes (afterRows (oneByOne (pathsOf bleedinEdgeBytes)) nothingHeard (bleedinRound ∷ []))
+bleedin-edge-rests = stored-rests bleedinEdgeBytes _ bleedinStable bleedin-edge-stable (followed .edgeRests)
+
+pub di-safe-gree-rests : Rests diSafeGreeBytes (afterRows (oneByOne (pathsOf diSafeGreeBytes)) nothingHeard diSafeGreeRows)
+di-safe-gree-rests = stored-rests diSafeGreeBytes _ diSafeGreeStable di-safe-gree-stable (followed .diSafeGreeRests)
+
+-- Row 3 of Table 4 needs its moment. Where 2 has heard (4 0) it has a better path than (2 3 0), the one that 4 must hear in row 3 ..
+two-chooses : (given : ℕ → Path) → given 4 ≡ 4 ∷ 0 ∷ [] → bestGiven (pathsOf bleedinEdgeBytes) given 2 ≡ 2 ∷ 4 ∷ 0 ∷ []
+unfolding bestGiven extends rest nextHop same
+two-chooses given e =
+    rw (computed .twoPaths)
+    (first-tail (extends given) (2 ∷ 4 ∷ 3 ∷ 0 ∷ []) _ (ap (same (4 ∷ 3 ∷ 0 ∷ [])) e)
+    ∙ first-head (extends given) (2 ∷ 4 ∷ 0 ∷ []) _ (ap (same (4 ∷ 0 ∷ [])) e))
+
+-- .. and where 4 has heard (2 3 0) it has a better path than (4 0), the one that 2 must hear.
+four-chooses : (given : ℕ → Path)
+    → given 2 ≡ 2 ∷ 3 ∷ 0 ∷ []
+    → (bestGiven (pathsOf bleedinEdgeBytes) given 4 ≡ 4 ∷ 3 ∷ 0 ∷ []) ⊎ (bestGiven (pathsOf bleedinEdgeBytes) given 4 ≡ 4 ∷ 2 ∷ 3 ∷ 0 ∷ [])
+unfolding bestGiven extends rest nextHop same
+four-chooses given e =
+    rw (computed .fourPaths)
+    (by-test (extends given (4 ∷ 3 ∷ 0 ∷ []))
+    (λ q. inl (first-head (extends given) (4 ∷ 3 ∷ 0 ∷ []) _ q))
+    (λ q. inr (first-tail (extends given) (4 ∷ 3 ∷ 0 ∷ []) _ q
+    ∙ first-head (extends given) (4 ∷ 2 ∷ 3 ∷ 0 ∷ []) _ (ap (same (2 ∷ 3 ∷ 0 ∷ [])) e))))
+
+-- What 2 has heard from 4 and 4 from 2 in row 3: (4 0), of rank 3, and (2 3 0), of rank 4.
+abbrev pub RowThreeHeard : List ℕ → Type 0
+RowThreeHeard = Crossed (pathsOf bleedinEdgeBytes) 2 4 3 4 (omega arith) (omega arith) (λ z. omega arith)
+
+-- So from a state in which they have not both heard that, no calls lead to one in which they have ..
+pub moment-needed : (heard : List ℕ) (calls : List Call)
+    → length heard ≡ 4096
+    → AllAccepted bleedinEdgeBytes heard calls
+    → RowThreeHeard (heardAfter bleedinEdgeBytes heard calls)
+    → RowThreeHeard heard
+moment-needed heard calls long a now =
+    let t = bleedinEdgeBytes in
+    let paths = pathsOf t in
+    never-crossed paths 2 4 3 4 (omega arith) (omega arith) (λ z. omega arith)
+    (λ h e f. let chosen = choice-other paths h 2 (λ z. omega arith)
+        ∙ two-chooses (lastHeard paths h 2) (heard-in paths h 2 4 (omega arith) ∙ ap (pathFor paths 4) e ∙ computed .rankThree) in
+    omega (arith, sym f ∙ ap (byteFor paths 2) chosen ∙ computed .byteTwo))
+    (λ h e f. let heardTwo = heard-in paths h 4 2 (omega arith) ∙ ap (pathFor paths 2) e ∙ computed .rankFour in
+    let other = choice-other paths h 4 (λ z. omega arith) in
+    ⊎-elim (λ q. omega (arith, sym f ∙ ap (byteFor paths 4) (other ∙ q) ∙ computed .byteOne))
+    (λ q. omega (arith, sym f ∙ ap (byteFor paths 4) (other ∙ q) ∙ computed .byteOther))
+    (four-chooses (lastHeard paths h 4) heardTwo))
+    (pairsOf calls) heard (all-range t (computed .bleedinRouters .accepted) calls heard a) long
+    (subst RowThreeHeard (all-after t calls heard a) now)
+
+-- .. and from zeros none leads to row 3's state.
+pub row-three-unreached : (calls : List Call)
+    → AllAccepted bleedinEdgeBytes nothingHeard calls
+    → heardAfter bleedinEdgeBytes nothingHeard calls ≡ rowThree
+    → ⊥
+row-three-unreached calls a e =
+    let before = moment-needed nothingHeard calls (computed .zerosLong) a (rw e (computed .rowThreeHeard)) in
+    omega (arith, before .0, computed .zerosHeard)

@@ -15,19 +15,21 @@ use Rattle.lists.specs.SearchLaws.{none-below, all-fail}
 use Rattle.lists.specs.ListLaws.{same-eq, same-refl, none-at, some-at, first-in-none}
 use Rattle.lists.specs.Fill.{tabulate}
 use Rattle.lists.specs.FillLaws.{tabulate-none, tabulate-suc, tabulate-at, is-tabulate}
-use Rattle.lists.specs.NumberLaws.{told-first, told-second}
+use Rattle.lists.specs.Fold.{foldLeft}
+use Rattle.lists.specs.NumberLaws.{told-apart, told-first, told-second}
 use Rattle.lists.specs.Tests.{by-test, by-equal, by-less, by-option, true≢, and-parts, both}
 use Rattle.rules.specs.Table.{Path, nextHop, pathsOf, present}
 use Rattle.rules.specs.Stable.{Stable, extends, bestGiven}
-use Rattle.rules.specs.Machine.{Pair, offsetOf}
+use Rattle.rules.specs.Machine.{Pair, offsetOf, byteFor, choice, step}
 use Rattle.rules.specs.Refusals.{refusal}
 use Rattle.rules.specs.Answers.{unless, stepRefusal, heardAfterStep}
 use Rattle.rules.specs.ShapeLaws.{shaped}
 use Rattle.rules.specs.PathLaws.{Stands, first-among}
 use Rattle.rules.specs.RunLaws.{all-listen}
-use Rattle.rules.specs.MachineLaws.{best-same, speaker-present, listening}
+use Rattle.rules.specs.MachineLaws.{best-same, speaker-present, listening, step-length, step-here, step-there}
 use Rattle.rules.specs.AnswerLaws.{step-admitted}
 use Rattle.theorems.specs.Claims.{Valid, Rests, storedByte, storing}
+use Rattle.theorems.specs.LastingLaws.{Vertices, InRange, after}
 use Rattle.theorems.specs.EnteringLaws.{next-listens}
 use Rattle.theorems.specs.RestingPoints.{stable-rests}
 use Rattle.theorems.specs.Published.{assigned, routersPaths, pairAt, changesAt, someStepChanges}
@@ -194,3 +196,38 @@ is-storing t heard ps stores =
     (λ k h. let z : 0 + k ≡ k = omega arith in
     let found = first-in-none (λ j b. not (eqb b (storedByte t a j))) heard 0 0 (stores .same) k (omega (arith, stores .long)) in
     eqb-true (getD heard k 0) (storedByte t a k) (not-false _ (rw z at found)))
+
+-- and it rests where the paths are a stable state
+pub stored-rests : (t heard : List ℕ) (ps : List Path) → StableState t ps → Stores t ps heard → Rests t heard
+stored-rests t heard ps state stores = subst (Rests t) (sym (is-storing t heard ps stores)) (state .rests)
+
+-- v and u listen to each other, and who has heard the one byte does not choose the other: then no step makes both pairs hold these bytes
+
+module _ (paths : ℕ → List Path) (v u b c : ℕ) (small : v < 64) (smaller : u < 64) (apart : v ≢ u) where
+  abbrev pub Crossed : List ℕ → Type 0
+  Crossed heard = (getD heard (64 * v + u) 0 ≡ b) × (getD heard (64 * u + v) 0 ≡ c)
+
+  module _ (one : (heard : List ℕ) → getD heard (64 * v + u) 0 ≡ b → byteFor paths v (choice paths heard v) ≡ c → ⊥)
+      (other : (heard : List ℕ) → getD heard (64 * u + v) 0 ≡ c → byteFor paths u (choice paths heard u) ≡ b → ⊥) where
+    step-crosses : (heard : List ℕ) (p : Pair) → Vertices p → length heard ≡ 4096 → Crossed (step paths heard p) → Crossed heard
+    unfolding offsetOf
+    step-crosses heard p r long now =
+        let kept : (k : ℕ) → k ≢ offsetOf p → getD heard k 0 ≡ getD (step paths heard p) k 0 = λ k d. sym (step-there paths heard p k d) in
+        let new : byteFor paths (p .speaker) (choice paths heard (p .speaker)) ≡ getD (step paths heard p) (offsetOf p) 0 =
+            sym (step-here paths heard p (omega (arith, r .listener, r .speaker, long)))
+        in
+        by-equal (64 * v + u) (offsetOf p)
+        (λ e. let told = told-apart v u (p .listener) (p .speaker) smaller (r .speaker) e in
+        absurd (other heard (kept (64 * u + v) (λ d. apart (omega arith)) ∙ now .1)
+        (rw (told .1) (new ∙ ap (λ (k : ℕ). getD (step paths heard p) k 0) (sym e) ∙ now .0))))
+        (λ d. by-equal (64 * u + v) (offsetOf p)
+        (λ e. let told = told-apart u v (p .listener) (p .speaker) small (r .speaker) e in
+        absurd (one heard (kept (64 * v + u) d ∙ now .0)
+        (rw (told .1) (new ∙ ap (λ (k : ℕ). getD (step paths heard p) k 0) (sym e) ∙ now .1))))
+        (λ f. (kept (64 * v + u) d ∙ now .0, kept (64 * u + v) f ∙ now .1)))
+
+    pub never-crossed : (s : List Pair) (heard : List ℕ) → InRange s → length heard ≡ 4096 → Crossed (after paths heard s) → Crossed heard
+    unfolding foldLeft InRange
+    never-crossed [] heard r long now = now
+    never-crossed (p ∷ s) heard r long now =
+        step-crosses heard p (r .0) long (never-crossed s (step paths heard p) (r .1) (step-length paths heard p ∙ long) now)
