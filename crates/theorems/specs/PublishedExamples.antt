@@ -289,7 +289,7 @@ moment-needed heard calls long a now =
     let paths = pathsOf t in
     never-crossed paths 2 4 3 4 (omega arith) (omega arith) (λ z. omega arith)
     (λ h e f. let chosen = choice-other paths h 2 (λ z. omega arith)
-        ∙ two-chooses (lastHeard paths h 2) (heard-in paths h 2 4 (omega arith) ∙ ap (pathFor paths 4) e ∙ computed .rankThree) in
+    ∙ two-chooses (lastHeard paths h 2) (heard-in paths h 2 4 (omega arith) ∙ ap (pathFor paths 4) e ∙ computed .rankThree) in
     omega (arith, sym f ∙ ap (byteFor paths 2) chosen ∙ computed .byteTwo))
     (λ h e f. let heardTwo = heard-in paths h 4 2 (omega arith) ∙ ap (pathFor paths 2) e ∙ computed .rankFour in
     let other = choice-other paths h 4 (λ z. omega arith) in

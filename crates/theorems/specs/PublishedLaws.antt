@@ -60,10 +60,10 @@ every-drawn paths a (suc n) test drawn e =
     let own = [] ∷ paths (suc n) in
     let before = routersPaths n a in
     let all = none-at (λ p. not (test (before ++ p ∷ []))) own []
-        (not-true _ (every-drawn paths a n _ (λ k h. drawn k (omega arith)) e))
+    (not-true _ (every-drawn paths a n _ (λ k h. drawn k (omega arith)) e))
     in
     let passes : (k : ℕ) → k < length own → getD own k [] ≡ a (suc n) → test (before ++ a (suc n) ∷ []) ≡ true =
-        λ k h q. not-false _ (subst (λ p. not (test (before ++ p ∷ [])) ≡ false) q (all k h))
+    λ k h q. not-false _ (subst (λ p. not (test (before ++ p ∷ [])) ≡ false) q (all k h))
     in
     rw (tabulate-suc (λ k. a (suc k)) n)
     (⊎-elim (λ q. passes 0 (omega arith) (sym q)) (λ s. passes (suc (s .place)) (omega (arith, s .under)) (s .there))
@@ -112,14 +112,14 @@ module _ (t : List ℕ) (n : ℕ) (routers : Routers t n) where
   tested-stable ps e =
       let a = assigned ps in
       let tested : (k : ℕ) → k < n → a (suc k) ≡ bestGiven (pathsOf t) a (suc k) =
-          λ k h. same-eq _ _ (not-false _ (none-below (λ j. not (same (a (suc j)) (bestGiven (pathsOf t) a (suc j)))) n e k h))
+      λ k h. same-eq _ _ (not-false _ (none-below (λ j. not (same (a (suc j)) (bestGiven (pathsOf t) a (suc j)))) n e k h))
       in
       let stable : Stable (pathsOf t) (present t) a =
-          record {
-            destination = refl;
-            others = λ v z here. let s : suc (pred v) ≡ v = omega arith in
-                subst (λ w. a w ≡ bestGiven (pathsOf t) a w) s (tested (pred v) (omega (arith, present-most v here)));
-          }
+      record {
+        destination = refl;
+        others = λ v z here. let s : suc (pred v) ≡ v = omega arith in
+            subst (λ w. a w ≡ bestGiven (pathsOf t) a w) s (tested (pred v) (omega (arith, present-most v here)));
+      }
       in
       record { stable = stable; rests = stable-rests t (routers .accepted) a stable }
 
@@ -138,11 +138,11 @@ module _ (t : List ℕ) (n : ℕ) (routers : Routers t n) where
         let b = assigned (routersPaths n a) in
         all-fail (λ k. not (same (b (suc k)) (bestGiven paths b (suc k)))) n
         (λ k h. let e : b (suc k) ≡ bestGiven paths b (suc k) =
-            routers-same (suc k) h ∙ stable .others (suc k) (λ z. omega arith) (router-present k h)
-            ∙ best-same paths a b (suc k)
-            (λ j l. let u = nextHop (getD (paths (suc k)) j []) in
-            let named = speaker-present paths (present t) (shaped t (routers .accepted)) (suc k) u (next-listens paths (suc k) j l) in
-            sym (routers-same u (present-most u named)))
+        routers-same (suc k) h ∙ stable .others (suc k) (λ z. omega arith) (router-present k h)
+        ∙ best-same paths a b (suc k)
+        (λ j l. let u = nextHop (getD (paths (suc k)) j []) in
+        let named = speaker-present paths (present t) (shaped t (routers .accepted)) (suc k) u (next-listens paths (suc k) j l) in
+        sym (routers-same u (present-most u named)))
         in
         rw (← e) (ap not (same-refl (b (suc k)))))
 
@@ -214,7 +214,7 @@ module _ (paths : ℕ → List Path) (v u b c : ℕ) (small : v < 64) (smaller :
     step-crosses heard p r long now =
         let kept : (k : ℕ) → k ≢ offsetOf p → getD heard k 0 ≡ getD (step paths heard p) k 0 = λ k d. sym (step-there paths heard p k d) in
         let new : byteFor paths (p .speaker) (choice paths heard (p .speaker)) ≡ getD (step paths heard p) (offsetOf p) 0 =
-            sym (step-here paths heard p (omega (arith, r .listener, r .speaker, long)))
+        sym (step-here paths heard p (omega (arith, r .listener, r .speaker, long)))
         in
         by-equal (64 * v + u) (offsetOf p)
         (λ e. let told = told-apart v u (p .listener) (p .speaker) smaller (r .speaker) e in
