@@ -1,8 +1,8 @@
-// The printed text of a row: its title with the activated pairs, and the run that it is.
+// A row's part of a schedule, and its printed text: its title with the activated pairs, and the run that it is.
 ghost use mathlib.Core.Path.{_≡_};
 ghost use mathlib.Core.List.{_++_};
 ghost use lib.IntN.{pos};
-ghost use lib.ListN.{replicate};
+ghost use lib.ListN.{take, drop, replicate};
 ghost use Rattle.rules.specs.Answers.{heardAfterRun};
 ghost use Rattle.rules.specs.Text.{codes, spaced};
 ghost use Rattle.rules.specs.RunText.{runText};
@@ -11,7 +11,20 @@ use letters::put;
 use letters::put_spaced;
 use machine::choices;
 use machine::run;
+use parts::at_most;
 use run_lines::print_run;
+
+// So many bytes from a place on, as far as there are.
+pub fn part(bytes: &[u8], from: usize, count: usize) -> &[u8]
+    ensures { λ r. ⌜ now r ≡ take count (drop from (now (bytes .entry))) ⌝ }
+{
+    let length = bytes.len();
+    if length < from {
+        return &bytes[..0];
+    }
+    let end = from + at_most(count, length - from);
+    &bytes[from..end]
+}
 
 // Lays a title and the numbers of the pairs over the front of the lent text, and answers how many bytes that is.
 pub fn title_text(title: &[u8], pairs: &[u8], text: &mut [u8]) -> usize

@@ -1,11 +1,11 @@
 // The rows of the published examples as schedules, a row to a line, each the bytes of its definition.
 ghost use mathlib.Core.Path.{_≡_};
 ghost use mathlib.Core.List.{[], _∷_};
-ghost use Rattle.theorems.specs.Published.{twoFirst, oneFirst, badGadgetRounds, table4, bleedinRound, diSafeGreeRows, pairsOfRows};
+ghost use Rattle.theorems.specs.Published.{disagreeTwoFirst, disagreeOneFirst, badGadgetRounds, table4, edgeTwoFirst, bleedinRound, diSafeGreeRows, pairsOfRows};
 
 // DISAGREE: the direct paths, then 2 hears 1 and 1 hears 2.
 pub fn disagree_two_first() -> [u8; 8]
-    ensures { λ r. ⌜ r ≡ pairsOfRows twoFirst ⌝ }
+    ensures { λ r. ⌜ r ≡ pairsOfRows disagreeTwoFirst ⌝ }
 {
     *b"\x01\x00\x02\x00\
        \x02\x01\x01\x02"
@@ -13,7 +13,7 @@ pub fn disagree_two_first() -> [u8; 8]
 
 // DISAGREE: the direct paths, then 1 hears 2 and 2 hears 1.
 pub fn disagree_one_first() -> [u8; 8]
-    ensures { λ r. ⌜ r ≡ pairsOfRows oneFirst ⌝ }
+    ensures { λ r. ⌜ r ≡ pairsOfRows disagreeOneFirst ⌝ }
 {
     *b"\x01\x00\x02\x00\
        \x01\x02\x02\x01"
@@ -41,6 +41,13 @@ pub fn table_4() -> [u8; 34]
        \x04\x03\
        \x02\x01\x02\x03\x02\x04\
        \x01\x02\x03\x02\x04\x02"
+}
+
+// Row 3 of Table 4 in the other order, for one by one.
+pub fn table_4_two_first() -> [u8; 4]
+    ensures { λ r. ⌜ r ≡ pairsOfRows (edgeTwoFirst ∷ []) ⌝ }
+{
+    *b"\x02\x04\x04\x02"
 }
 
 // BLEEDIN-EDGE: a round of all its pairs.

@@ -130,14 +130,14 @@ unfoldable pub table4 : List Row
 table4 = table4Begin ++ table4Moment ∷ table4End
 
 -- Rows that 001 has in words only. The proof of Property 3.1: after row 1 of Table 2, row 2's pairs one after the other, 2 or 1 first.
-unfoldable pub twoFirst : List Row
-twoFirst =
+unfoldable pub disagreeTwoFirst : List Row
+disagreeTwoFirst =
     record { pairs = 1 ∷ 0 ∷ 2 ∷ 0 ∷ []; selected = (1 ∷ 0 ∷ []) ∷ (2 ∷ 0 ∷ []) ∷ [] }
     ∷ record { pairs = 2 ∷ 1 ∷ 1 ∷ 2 ∷ []; selected = disagreeFirst }
     ∷ []
 
-unfoldable pub oneFirst : List Row
-oneFirst =
+unfoldable pub disagreeOneFirst : List Row
+disagreeOneFirst =
     record { pairs = 1 ∷ 0 ∷ 2 ∷ 0 ∷ []; selected = (1 ∷ 0 ∷ []) ∷ (2 ∷ 0 ∷ []) ∷ [] }
     ∷ record { pairs = 1 ∷ 2 ∷ 2 ∷ 1 ∷ []; selected = disagreeSecond }
     ∷ []
@@ -154,11 +154,11 @@ badGadgetRounds =
     ∷ []
 
 -- row 3's pairs of Table 4 one after the other, 4 or 2 first
-unfoldable pub fourFirst : Row
-fourFirst = record { pairs = 4 ∷ 2 ∷ 2 ∷ 4 ∷ []; selected = (1 ∷ 0 ∷ []) ∷ (2 ∷ 3 ∷ 0 ∷ []) ∷ (3 ∷ 0 ∷ []) ∷ (4 ∷ 2 ∷ 3 ∷ 0 ∷ []) ∷ [] }
+unfoldable pub edgeFourFirst : Row
+edgeFourFirst = record { pairs = 4 ∷ 2 ∷ 2 ∷ 4 ∷ []; selected = (1 ∷ 0 ∷ []) ∷ (2 ∷ 3 ∷ 0 ∷ []) ∷ (3 ∷ 0 ∷ []) ∷ (4 ∷ 2 ∷ 3 ∷ 0 ∷ []) ∷ [] }
 
-unfoldable pub secondFirst : Row
-secondFirst = record { pairs = 2 ∷ 4 ∷ 4 ∷ 2 ∷ []; selected = (1 ∷ 0 ∷ []) ∷ (2 ∷ 4 ∷ 0 ∷ []) ∷ (3 ∷ 0 ∷ []) ∷ (4 ∷ 0 ∷ []) ∷ [] }
+unfoldable pub edgeTwoFirst : Row
+edgeTwoFirst = record { pairs = 2 ∷ 4 ∷ 4 ∷ 2 ∷ []; selected = (1 ∷ 0 ∷ []) ∷ (2 ∷ 4 ∷ 0 ∷ []) ∷ (3 ∷ 0 ∷ []) ∷ (4 ∷ 0 ∷ []) ∷ [] }
 
 -- BLEEDIN-EDGE, a round of all its pairs from zeros
 unfoldable pub bleedinRound : Row

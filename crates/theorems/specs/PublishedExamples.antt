@@ -26,7 +26,7 @@ use Rattle.theorems.specs.Claims.{Call, AllAccepted, heardAfter, pairsOf
 use Rattle.theorems.specs.CallLaws.{all-after, all-range}
 use Rattle.theorems.specs.RestingPoints.{rests-resting, resting-stable}
 use Rattle.theorems.specs.PublishedLaws.{Stores, otherStored, stored-rests, Crossed, never-crossed, StableState, Routers, unstable, everyDraw, samePaths, Only, tested-stable, stable-named}
-use Rattle.theorems.specs.Published.{disagree, badGadget, bleedinEdge, diSafeGree, disagreeBytes, badGadgetBytes, bleedinEdgeBytes, diSafeGreeBytes, assigned, routersPaths, disagreeFirst, disagreeSecond, bleedinStable, diSafeGreeStable, Row, table2, table4Begin, table4Moment, table4End, table4, twoFirst, oneFirst, badGadgetRound, badGadgetRounds, fourFirst, secondFirst, bleedinRound, diSafeGreeRows, atOnce, oneByOne, afterRows, selectedIn, selectedAfter, AtOnce, OneByOne, nothingHeard, rowThree}
+use Rattle.theorems.specs.Published.{disagree, badGadget, bleedinEdge, diSafeGree, disagreeBytes, badGadgetBytes, bleedinEdgeBytes, diSafeGreeBytes, assigned, routersPaths, disagreeFirst, disagreeSecond, bleedinStable, diSafeGreeStable, Row, table2, table4Begin, table4Moment, table4End, table4, disagreeTwoFirst, disagreeOneFirst, badGadgetRound, badGadgetRounds, edgeFourFirst, edgeTwoFirst, bleedinRound, diSafeGreeRows, atOnce, oneByOne, afterRows, selectedIn, selectedAfter, AtOnce, OneByOne, nothingHeard, rowThree}
 
 -- What the first check says of each: a line is a router, its stage (255 for stuck), and its rank and path; then stages, longest and ring.
 -- 001, section 4: "At the first iteration, vertex 1 enters the stable set .. At the second iteration, the algorithm forcedly stops."
@@ -131,10 +131,10 @@ computed =
 pub record Followed : Type 0 where
   -- Table 2, all pairs of a row at one moment: the choices come back. One after the other they end in a stable state.
   pub disagreeMoments : AtOnce disagreeBytes 2 nothingHeard table2
-  pub disagreeTwoFirst : OneByOne disagreeBytes 2 nothingHeard twoFirst
-  pub disagreeOneFirst : OneByOne disagreeBytes 2 nothingHeard oneFirst
-  pub disagreeEndsFirst : Stores disagreeBytes disagreeFirst (afterRows (oneByOne (pathsOf disagreeBytes)) nothingHeard twoFirst)
-  pub disagreeEndsSecond : Stores disagreeBytes disagreeSecond (afterRows (oneByOne (pathsOf disagreeBytes)) nothingHeard oneFirst)
+  pub disagreeByTwo : OneByOne disagreeBytes 2 nothingHeard disagreeTwoFirst
+  pub disagreeByOne : OneByOne disagreeBytes 2 nothingHeard disagreeOneFirst
+  pub disagreeEndsFirst : Stores disagreeBytes disagreeFirst (afterRows (oneByOne (pathsOf disagreeBytes)) nothingHeard disagreeTwoFirst)
+  pub disagreeEndsSecond : Stores disagreeBytes disagreeSecond (afterRows (oneByOne (pathsOf disagreeBytes)) nothingHeard disagreeOneFirst)
   -- BAD GADGET: the third round ends in the state of the first
   pub badGadgetTurns : OneByOne badGadgetBytes 3 nothingHeard badGadgetRounds
   pub badGadgetAgain : afterRows (oneByOne (pathsOf badGadgetBytes)) nothingHeard badGadgetRounds
@@ -145,8 +145,8 @@ pub record Followed : Type 0 where
       ≡ selectedIn (pathsOf bleedinEdgeBytes) 4 (afterRows (atOnce (pathsOf bleedinEdgeBytes)) nothingHeard (take 1 table4))
   -- one by one: rows 1 and 2 from zeros, then row 3 in neither order, and rows 4 to 9 from row 3's state
   pub edgeBegin : OneByOne bleedinEdgeBytes 4 nothingHeard table4Begin
-  pub edgeFourFirst : OneByOne bleedinEdgeBytes 4 nothingHeard (table4Begin ++ fourFirst ∷ [])
-  pub edgeSecondFirst : OneByOne bleedinEdgeBytes 4 nothingHeard (table4Begin ++ secondFirst ∷ [])
+  pub edgeByFour : OneByOne bleedinEdgeBytes 4 nothingHeard (table4Begin ++ edgeFourFirst ∷ [])
+  pub edgeByTwo : OneByOne bleedinEdgeBytes 4 nothingHeard (table4Begin ++ edgeTwoFirst ∷ [])
   pub edgeRowThree : afterRows (atOnce (pathsOf bleedinEdgeBytes)) nothingHeard (table4Begin ++ table4Moment ∷ []) ≡ rowThree
   pub edgeEnd : OneByOne bleedinEdgeBytes 4 rowThree (table4End ++ drop 1 table4Begin)
   -- a round of all pairs from zeros ends in the stable state of Table 5
@@ -162,13 +162,13 @@ unfolding outside anyBelow thoseBelow anyIn firstIn elem same tabulate foldLeft 
     lastHeard choice step pairsIn recordBytes blockBytes tableBytes storedByte otherStored
     disagree badGadget bleedinEdge diSafeGree disagreeBytes badGadgetBytes bleedinEdgeBytes diSafeGreeBytes
     assigned routersPaths disagreeFirst disagreeSecond bleedinStable diSafeGreeStable table2 table4Begin table4Moment table4End table4
-    twoFirst oneFirst badGadgetRound badGadgetRounds fourFirst secondFirst bleedinRound diSafeGreeRows
+    disagreeTwoFirst disagreeOneFirst badGadgetRound badGadgetRounds edgeFourFirst edgeTwoFirst bleedinRound diSafeGreeRows
     atOnce oneByOne afterRows selectedIn selectedAfter nothingHeard rowThree
 followed =
     record {
       disagreeMoments = refl;
-      disagreeTwoFirst = refl;
-      disagreeOneFirst = refl;
+      disagreeByTwo = refl;
+      disagreeByOne = refl;
       disagreeEndsFirst = record { long = refl; same = refl };
       disagreeEndsSecond = record { long = refl; same = refl };
       badGadgetTurns = refl;
@@ -176,8 +176,8 @@ followed =
       edgeMoments = refl;
       edgeAgain = refl;
       edgeBegin = refl;
-      edgeFourFirst = refl;
-      edgeSecondFirst = refl;
+      edgeByFour = refl;
+      edgeByTwo = refl;
       edgeRowThree = refl;
       edgeEnd = refl;
       edgeRound = refl;
@@ -242,10 +242,10 @@ di-safe-gree-only = only-one diSafeGreeBytes 3 diSafeGreeStable (computed .diSaf
 
 -- What the rows come to one by one: these states rest.
 
-pub disagree-two-first : Rests disagreeBytes (afterRows (oneByOne (pathsOf disagreeBytes)) nothingHeard twoFirst)
+pub disagree-two-first : Rests disagreeBytes (afterRows (oneByOne (pathsOf disagreeBytes)) nothingHeard disagreeTwoFirst)
 disagree-two-first = stored-rests disagreeBytes _ disagreeFirst disagree-first (followed .disagreeEndsFirst)
 
-pub disagree-one-first : Rests disagreeBytes (afterRows (oneByOne (pathsOf disagreeBytes)) nothingHeard oneFirst)
+pub disagree-one-first : Rests disagreeBytes (afterRows (oneByOne (pathsOf disagreeBytes)) nothingHeard disagreeOneFirst)
 disagree-one-first = stored-rests disagreeBytes _ disagreeSecond disagree-second (followed .disagreeEndsSecond)
 
 pub bleedin-edge-rests : Rests bleedinEdgeBytes (afterRows (oneByOne (pathsOf bleedinEdgeBytes)) nothingHeard (bleedinRound ∷ []))
