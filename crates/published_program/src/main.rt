@@ -52,29 +52,29 @@ fn show_rest(table: &[u8], heard: [u8; 4096]) {
 // Row 2 of Table 2 needs its two pairs at one moment; one by one they end in a stable state of Table 3.
 fn show_table_2(title: &[u8], table: &[u8], rows: &[u8]) {
     let mut heard = [0; 4096];
-    show_row(b"row 1:", table, &mut heard, rows, 0, 4);
+    show_row(b"row 1, pairs", table, &mut heard, rows, 0, 4);
     show_row(title, table, &mut heard, rows, 4, 4);
     show_rest(table, heard);
 }
 
 fn show_disagree() {
-    say(b"DISAGREE: Figure 1b, Tables 2 and 3, one by one\n");
+    say(b"DISAGREE of 001: Figure 1b, Tables 2 and 3, one by one\n");
     let table = disagree();
     show_check(&table);
-    show_table_2(b"row 2, 2 first:", &table, &disagree_two_first());
-    show_table_2(b"row 2, 1 first:", &table, &disagree_one_first());
+    show_table_2(b"row 2, 2 first, pairs", &table, &disagree_two_first());
+    show_table_2(b"row 2, 1 first, pairs", &table, &disagree_one_first());
 }
 
 fn show_rounds(table: &[u8], rows: &[u8]) {
     let mut heard = [0; 4096];
-    show_row(b"round 1:", table, &mut heard, rows, 0, 12);
-    show_row(b"round 2:", table, &mut heard, rows, 12, 12);
-    show_row(b"round 3:", table, &mut heard, rows, 24, 12);
+    show_row(b"round 1, pairs", table, &mut heard, rows, 0, 12);
+    show_row(b"round 2, pairs", table, &mut heard, rows, 12, 12);
+    show_row(b"round 3, pairs", table, &mut heard, rows, 24, 12);
     show_rest(table, heard);
 }
 
 fn show_bad_gadget() {
-    say(b"BAD GADGET: Figure 1a\n");
+    say(b"BAD GADGET of 001: Figure 1a\n");
     let table = bad_gadget();
     show_check(&table);
     show_rounds(&table, &bad_gadget_rounds());
@@ -84,38 +84,38 @@ fn show_bad_gadget() {
 fn show_table_4(table: &[u8], rows: &[u8], turned: &[u8]) {
     say(b"Table 4 from zeros, one by one\n");
     let mut heard = [0; 4096];
-    show_row(b"row 1:", table, &mut heard, rows, 0, 6);
-    show_row(b"row 2:", table, &mut heard, rows, 6, 2);
+    show_row(b"row 1, pairs", table, &mut heard, rows, 0, 6);
+    show_row(b"row 2, pairs", table, &mut heard, rows, 6, 2);
     let mut other = heard;
-    show_row(b"row 3, 4 first:", table, &mut heard, rows, 8, 4);
-    show_row(b"row 3, 2 first:", table, &mut other, turned, 0, 4);
+    show_row(b"row 3, 4 first, pairs", table, &mut heard, rows, 8, 4);
+    show_row(b"row 3, 2 first, pairs", table, &mut other, turned, 0, 4);
 }
 
 // From row 3's state the rows 4 to 9 follow one by one, and then row 2 again; in two functions, so that each is proved by itself.
 fn show_leftover(table: &[u8], heard: &mut [u8], rows: &[u8]) {
     say(b"Table 4 from the state of its row 3, one by one\n");
-    show_row(b"row 3:", table, heard, rows, 0, 0);
-    show_row(b"row 4:", table, heard, rows, 12, 4);
-    show_row(b"row 5:", table, heard, rows, 16, 2);
-    show_row(b"row 6:", table, heard, rows, 18, 2);
+    show_row(b"row 3, no pairs", table, heard, rows, 0, 0);
+    show_row(b"row 4, pairs", table, heard, rows, 12, 4);
+    show_row(b"row 5, pairs", table, heard, rows, 16, 2);
+    show_row(b"row 6, pairs", table, heard, rows, 18, 2);
 }
 
 fn show_leftover_end(table: &[u8], heard: &mut [u8], rows: &[u8]) {
-    show_row(b"row 7:", table, heard, rows, 20, 2);
-    show_row(b"row 8:", table, heard, rows, 22, 6);
-    show_row(b"row 9:", table, heard, rows, 28, 6);
-    show_row(b"row 2:", table, heard, rows, 6, 2);
+    show_row(b"row 7, pairs", table, heard, rows, 20, 2);
+    show_row(b"row 8, pairs", table, heard, rows, 22, 6);
+    show_row(b"row 9, pairs", table, heard, rows, 28, 6);
+    show_row(b"row 2, pairs", table, heard, rows, 6, 2);
 }
 
 fn show_table_5(table: &[u8], round: &[u8]) {
     say(b"Table 5, by a round from zeros\n");
     let mut heard = [0; 4096];
-    show_row(b"round:", table, &mut heard, round, 0, 20);
+    show_row(b"round, pairs", table, &mut heard, round, 0, 20);
     show_rest(table, heard);
 }
 
 fn show_bleedin_edge() {
-    say(b"BLEEDIN-EDGE: Figure 3a, Tables 4 and 5\n");
+    say(b"BLEEDIN-EDGE of 001: Figure 3a, Tables 4 and 5\n");
     let table = bleedin_edge();
     show_check(&table);
     let rows = table_4();
@@ -128,14 +128,14 @@ fn show_bleedin_edge() {
 
 fn show_section_4(table: &[u8], rows: &[u8]) {
     let mut heard = [0; 4096];
-    show_row(b"direct paths:", table, &mut heard, rows, 0, 8);
-    show_row(b"then 2 1 0:", table, &mut heard, rows, 8, 4);
-    show_row(b"then 2 3 0:", table, &mut heard, rows, 12, 4);
+    show_row(b"direct paths, pairs", table, &mut heard, rows, 0, 8);
+    show_row(b"then 2 1 0, pairs", table, &mut heard, rows, 8, 4);
+    show_row(b"then 2 3 0, pairs", table, &mut heard, rows, 12, 4);
     show_rest(table, heard);
 }
 
 fn show_di_safe_gree() {
-    say(b"DI-SAFE-GREE: Figure 3b, Table 6 and section 4\n");
+    say(b"DI-SAFE-GREE of 001: Figure 3b, Table 6 and section 4\n");
     let table = di_safe_gree();
     show_check(&table);
     show_section_4(&table, &di_safe_gree_rows());
