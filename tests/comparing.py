@@ -28,6 +28,11 @@ def build(words):
 
 
 @functools.cache
+def build_entries():
+    build(["rt", "staticlib", "reefsplice"])
+
+
+@functools.cache
 def build_libraries():
     """Once for all tests of a run, since rt proves the crate again each time."""
     test_samples.setUpModule()

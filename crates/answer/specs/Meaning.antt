@@ -1,6 +1,8 @@
 -- What each case of the check's answer says in the numbers and values of the rules page.
 use Prim.Native.Nat.{ℕ}
 use mathlib.Core.List.{List, [], _∷_}
+use mathlib.Core.Option.{Option, none, some}
+use Rattle.rules.specs.Refusals.{Refusal}
 use Rattle.rules.specs.Answers as rules
 use Rattle.answer.specs.declared.Verdict.{Verdict}
 use Rattle.answer.specs.declared.Verdict.the-variants.{Complete, Stuck, Refused}
@@ -21,3 +23,9 @@ ringLengthIn (Refused n k) = 0
 -- the ring's length, the settled and stuck vertices, s and L
 unfoldable pub numbers : Answer → List ℕ
 numbers a = ringLengthIn (a .verdict) ∷ a .settled ∷ a .stuck ∷ a .stages ∷ a .longest ∷ []
+
+-- whether the check is refused, and with which number and place
+unfoldable pub checkRefusalIn : Verdict → Option Refusal
+checkRefusalIn Complete = none
+checkRefusalIn (Stuck n) = none
+checkRefusalIn (Refused n k) = some (record { number = n; place = k })

@@ -1,11 +1,14 @@
 -- Laws of what the check's answer says: it says everything, so two answers that say the same are equal.
 use mathlib.Core.Path.{_≡_, refl}
-use Prim.Native.Nat.{ℕ}
+use mathlib.Core.Option.{Option, none, some}
+use Prim.Native.Nat.{ℕ, zero, suc}
 use native.Mathlib.Omega.{arith}
+use Rattle.rules.specs.Refusals.{Refusal}
+use Rattle.rules.specs.Answers.{verdict, verdictOf}
 use Rattle.answer.specs.declared.Verdict.{Verdict}
 use Rattle.answer.specs.declared.Verdict.the-variants.{Complete, Stuck, Refused}
 use Rattle.answer.specs.declared.Answer.{Answer}
-use Rattle.answer.specs.Meaning.{meaning, numbers}
+use Rattle.answer.specs.Meaning.{meaning, checkRefusalIn, numbers}
 
 -- different verdicts say different things
 pub meaning-tells : (a b : Verdict) → meaning a ≡ meaning b → a ≡ b
@@ -30,3 +33,17 @@ answer-tells a b e f =
     let k : a .stages ≡ b .stages = cc in
     let l : a .longest ≡ b .longest = cc in
     λ i. record { verdict = v i; settled = s i; stuck = w i; stages = k i; longest = l i }
+
+-- a verdict that says what the rules' verdict is tells the refusal behind that
+pub refusal-in : (v : Verdict) (o : Option Refusal) (n : ℕ) → meaning v ≡ verdict o (verdictOf n) → checkRefusalIn v ≡ o
+unfolding meaning checkRefusalIn verdict verdictOf
+refusal-in Complete none n e = refl
+refusal-in Complete (some r) n e = absurd (let z : _≡_ {A = ℕ} 0 1 = cc in omega arith)
+refusal-in (Stuck k) none n e = refl
+refusal-in (Stuck k) (some r) n e = absurd (let z : _≡_ {A = ℕ} 0 1 = cc in omega arith)
+refusal-in (Refused a k) none zero e = absurd (let z : _≡_ {A = ℕ} 0 1 = cc in omega arith)
+refusal-in (Refused a k) none (suc n) e = absurd (let z : _≡_ {A = ℕ} 0 1 = cc in omega arith)
+refusal-in (Refused a k) (some r) n e =
+    let x : a ≡ r .number = cc in
+    let y : k ≡ r .place = cc in
+    λ i. some (record { number = x i; place = y i })

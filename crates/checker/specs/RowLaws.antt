@@ -102,10 +102,6 @@ unfolding pathOf recordAt
 path-most t i =
     omega (arith, length-take (suc (hopsOf (recordAt t i))) (drop 2 (recordAt t i)), length-drop 2 (recordAt t i), length-take 16 (drop (16 * i) t))
 
--- the part of the rows that is the vertex's
-pub part-length : (rows : List ℕ) (at : ℕ) → at + 16 ≤ length rows → length (take (at + 16 - at) (drop at rows)) ≡ 16
-part-length rows at h = length-take (at + 16 - at) (drop at rows) ∙ omega (arith, length-drop at rows)
-
 module _ (t marks shown rows : List ℕ) (long : length rows ≡ 1024) (ys : List ℕ) where
   -- the rows after the first
   pub first-written : ys ≡ rowBytes 0 0 (0 ∷ [])

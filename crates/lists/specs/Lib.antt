@@ -6,6 +6,7 @@ pub mod Fold
 -- The laws.
 pub mod Tests
 pub mod NumberLaws
+pub mod SignedLaws
 pub mod SearchLaws
 pub mod Parts
 pub mod ListLaws

@@ -1,9 +1,9 @@
 -- Parts of a list: from a start to an end, and to the list's end.
 use mathlib.Core.Path.{_≡_, sym, _∙_}
 use mathlib.Core.List.{List, [], _∷_}
-use Prim.Native.Nat.{ℕ, zero, suc, _+_, _-_, min}
+use Prim.Native.Nat.{ℕ, zero, suc, _+_, _-_, _≤_, min}
 use native.Mathlib.Omega.{arith}
-use lib.ListN.{length, take, drop, length-drop}
+use lib.ListN.{length, take, drop, length-take, length-drop}
 use lib.Seq.{take-all, take-nil}
 use lib.Dec.{ltb}
 use borrow.Author.Tests.{ltb-true, ltb-false}
@@ -13,6 +13,10 @@ module _ {A : Type 0} where
   -- the part from k to the end is what is left from k on
   pub part-to-end : (l : List A) (k : ℕ) → take (length l - k) (drop k l) ≡ drop k l
   part-to-end l k = take-all (length l - k) (drop k l) (omega (arith, length-drop k l))
+
+  -- n elements from a on, where so many are there
+  pub part-length : (l : List A) (a n : ℕ) → a + n ≤ length l → length (take (a + n - a) (drop a l)) ≡ n
+  part-length l a n h = length-take (a + n - a) (drop a l) ∙ omega (arith, length-drop a l)
 
   -- n elements from a on, or as many as there are
   pub part-clipped : (l : List A) (a n e : ℕ) → e ≡ min (a + n) (length l) → take (e - a) (drop a l) ≡ take n (drop a l)

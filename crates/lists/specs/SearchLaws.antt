@@ -269,6 +269,10 @@ module _ (f : ℕ → ℕ) where
       (λ q. let e : f k ≡ f n = ap f q in omega (arith, max-suc n))
       (λ q. omega (arith, max-suc n, max-bounds n k (omega arith)))
 
+  pub max-most : (most n : ℕ) → ((k : ℕ) → k < n → f k ≤ most) → maxBelow f n ≤ most
+  max-most most zero h = omega (arith, max-none)
+  max-most most (suc n) h = omega (arith, max-suc n, max-most most n (λ k l. h k (omega arith)), h n (omega arith))
+
 -- a search below n that has come to i, with the answer o still to be found from there on
 module _ (test : ℕ → Bool) (n i : ℕ) (o : Option ℕ) (come : firstFrom test i (n - i) ≡ o) where
   left-over : i < n → n - i ≡ suc (n - (i + 1))

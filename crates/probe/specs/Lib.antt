@@ -1,4 +1,2 @@
 pub mod Numbers
 pub mod NumberLaws
-pub mod CheckLaws
-pub mod MoveLaws

@@ -16,7 +16,8 @@ use Rattle.rules.specs.Refusals.{Refusal, refusal}
 use Rattle.rules.specs.Accepted.{told}
 use Rattle.reader.specs.Reading.{readingOf}
 use Rattle.reader.specs.declared.Reading.the-variants.{Accepted, Refused}
-use Rattle.probe.specs.Numbers.{codeOf, markOf, slotsIn, slotAt}
+use Rattle.rules.specs.Entries.{codeOf}
+use Rattle.probe.specs.Numbers.{markOf, slotsIn, slotAt}
 
 -- what the reader's answer says of the code
 pub accepted-code : (o : Option Refusal) → Accepted ≡ readingOf o → 0 ≡ codeOf o

@@ -1,172 +1,184 @@
--- What the collector holds after a check and some runs, by the contracts of the two entries alone: demand 3 over the answers and
--- the bytes that it was given, with the rounds that the runs answered.
+-- What the collector holds after a check and some runs and steps, by the contracts of the entries for C alone: demand 3 over the
+-- bytes that it was given, with the rounds that the runs answered.
 use Prim.{Unit}
-use Prim.Native.Nat.{ℕ, _+_, _*_, _<_, _≤_}
+use Prim.Native.Nat.{ℕ, suc, _+_, _*_, _<_, _≤_}
+use native.Mathlib.Omega.{arith}
 use mathlib.Core.Path.{_≡_, refl, sym, ap, _∙_}
 use mathlib.Core.Logic.{_≢_}
+use mathlib.Core.Bool.{true}
 use mathlib.Core.List.{List, [], _∷_, map}
 use mathlib.Core.Option.{none}
-use lib.ListN.{getD}
-use lib.IntN.{ℤ}
-use Rattle.lists.specs.Tests.{by-option}
-use Rattle.lists.specs.FillLaws.{tabulate-at}
-use Rattle.rules.specs.Table.{pathsOf}
-use Rattle.rules.specs.Report.{placeIn, rankIn, rowAt, pathShown, report}
-use Rattle.rules.specs.Machine.{byteFor, choice, choiceBytes}
+use lib.ListN.{getD, replicate}
+use lib.IntN.{pos}
+use Rattle.rules.specs.Table.{pathsOf, listens}
+use Rattle.rules.specs.Report.{rowAt, pathShown, report}
+use Rattle.rules.specs.Machine.{Pair, choice}
 use Rattle.rules.specs.Refusals.{refusal}
-use Rattle.rules.specs.Answers.{checkRefusal, verdict, checkVerdict, checkNumbers, rowsAfter, unless, choicesIn}
-use Rattle.rules.specs.MachineLaws.{speaks-other}
+use Rattle.rules.specs.Answers.{checkRefusal, checkNumbers, unless, runRefusal, runNumbers, heardAfterRun, stepRefusal, heardAfterStep}
+use Rattle.rules.specs.Entries.{wordBytes, numberBytes, checkRefusalForC, rowsForC, checkNumbersForC, stepRefusalForC, heardStepForC, runRefusalForC, heardRunForC, runNumbersForC}
+use Rattle.rules.specs.EntryLaws.{numberAt, number-told, number-most, check-zero, check-none, step-zero, step-none, run-zero, run-none}
 use Rattle.rules.specs.AnswerLaws.{check-admitted}
-use Rattle.answer.specs.declared.Answer.{Answer}
-use Rattle.answer.specs.declared.Verdict.the-variants.{Refused}
-use Rattle.answer.specs.declared.RunAnswer.{RunAnswer}
-use Rattle.answer.specs.declared.RunVerdict.the-variants.{Accepted}
-use Rattle.answer.specs.Meaning.{meaning, numbers}
-use Rattle.answer.specs.MeaningLaws.{meaning-tells}
-use Rattle.answer.specs.Moves.{runRefusalIn, runNumbersIn}
-use Rattle.checker.specs.Checked.{Checked}
-use Rattle.machine.specs.Ran.{Ran}
-use Rattle.theorems.specs.Claims.{Call, ofRun, callRefusal, heardAfterCall, roundsOfCall, AllAccepted, heardAfter, roundsAnswered, Valid, rowOf, Given, Stays}
-use Rattle.theorems.specs.Settling.{settling-answered}
+use Rattle.rules.specs.ShapeLaws.{longest-most}
+use Rattle.rules.specs.RoundLaws.{contains-fewer}
+use Rattle.reefsplice.specs.Called.{CheckCalled, StepCalled, RunCalled}
+use Rattle.theorems.specs.Claims.{Call, ofRun, ofStep, callRefusal, heardAfterCall, roundsOfCall, AllAccepted, heardAfter, pairsOf, roundsAnswered, listeningPairs, Valid, rowOf, Given, Stays}
+use Rattle.theorems.specs.Settling.{settling-answered, settling-heard, answered-contained}
 
--- A run as the collector saw it: what it lent, and what it found afterwards.
-pub record Seen : Type 0 where
-  pub schedule : List ℕ
-  pub sums : List ℤ
-  pub answer : RunAnswer
-  pub heardNow : List ℕ
-  pub sumsNow : List ℤ
+-- A call as the collector saw it: what it lent, and what it found there afterwards.
+pub data Seen : Type 0 where
+  ran : (schedule sums numbers heardNow sumsNow numbersNow : List ℕ) → Seen
+  stepped : (pair : Pair) (numbers heardNow numbersNow : List ℕ) → Seen
 
--- Runs one after the other, each from the heard state that the one before has left: the contract of the run, and no refusal.
-unfoldable pub AllRan : List ℕ → List ℕ → List Seen → Type 0
-AllRan t heard [] = Unit {0}
-AllRan t heard (r ∷ rs) =
-    Ran t heard (r .schedule) (r .sums) (r .answer) (r .heardNow) (r .sumsNow)
-    × ((r .answer .verdict ≡ Accepted) × AllRan t (r .heardNow) rs)
+-- Calls one after the other, each on the heard state that the one before has left: the entry's contract, with the code 0.
+unfoldable pub AllCalled : List ℕ → List ℕ → List Seen → Type 0
+AllCalled t heard [] = Unit {0}
+AllCalled t heard (ran s sums numbers heardNow sumsNow numbersNow ∷ rs) =
+    RunCalled t heard s sums numbers 0 heardNow sumsNow numbersNow × AllCalled t heardNow rs
+AllCalled t heard (stepped p numbers heardNow numbersNow ∷ rs) = StepCalled t heard p numbers 0 heardNow numbersNow × AllCalled t heardNow rs
 
--- the heard state that the last has left, and the rounds that their answers add up to
+-- the heard state that the last has left, and the sum of the rounds that the runs answered: the number at 4 of their numbers
+
+unfoldable pub heardNowOf : Seen → List ℕ
+heardNowOf (ran s sums numbers heardNow sumsNow numbersNow) = heardNow
+heardNowOf (stepped p numbers heardNow numbersNow) = heardNow
+
 unfoldable pub heardLeft : List ℕ → List Seen → List ℕ
 heardLeft heard [] = heard
-heardLeft heard (r ∷ rs) = heardLeft (r .heardNow) rs
+heardLeft heard (r ∷ rs) = heardLeft (heardNowOf r) rs
+
+unfoldable pub roundsIn : Seen → ℕ
+roundsIn (ran s sums numbers heardNow sumsNow numbersNow) = numberAt numbersNow 4
+roundsIn (stepped p numbers heardNow numbersNow) = 0
 
 unfoldable pub roundsSeen : List Seen → ℕ
 roundsSeen [] = 0
-roundsSeen (r ∷ rs) = r .answer .rounds + roundsSeen rs
+roundsSeen (r ∷ rs) = roundsIn r + roundsSeen rs
 
--- the same as calls
+-- the same as calls of the library
 callOf : Seen → Call
-callOf r = ofRun (r .schedule) (r .sums)
+callOf (ran s sums numbers heardNow sumsNow numbersNow) = ofRun s (replicate 64 (pos 0))
+callOf (stepped p numbers heardNow numbersNow) = ofStep p
 
 module _ (t : List ℕ) where
-  -- What one run's contract says of it as a call.
+  -- What an entry's contract says of it as a call.
   record AsCall (heard : List ℕ) (r : Seen) : Type 0 where
     accepted : callRefusal t heard (callOf r) ≡ none
-    after : heardAfterCall t heard (callOf r) ≡ r .heardNow
-    rounds : roundsOfCall t heard (callOf r) ≡ r .answer .rounds
+    after : heardAfterCall t heard (callOf r) ≡ heardNowOf r
+    rounds : roundsIn r ≤ roundsOfCall t heard (callOf r)
 
-  as-call : (heard : List ℕ) (r : Seen)
-      → Ran t heard (r .schedule) (r .sums) (r .answer) (r .heardNow) (r .sumsNow)
-      → r .answer .verdict ≡ Accepted
-      → AsCall heard r
-  unfolding callOf callRefusal heardAfterCall roundsOfCall runRefusalIn runNumbersIn
-  as-call heard r ran e =
+  as-run : (heard s sums numbers heardNow sumsNow numbersNow : List ℕ)
+      → RunCalled t heard s sums numbers 0 heardNow sumsNow numbersNow
+      → AsCall heard (ran s sums numbers heardNow sumsNow numbersNow)
+  unfolding callOf callRefusal heardAfterCall heardNowOf roundsOfCall roundsIn heardRunForC heardAfterRun runNumbersForC numberBytes unless
+  as-run heard s sums numbers heardNow sumsNow numbersNow called =
+      let e = run-zero t heard s sums numbers (sym (called .0)) in
+      let f = run-none t heard s sums numbers e in
+      let told : numbersNow ≡ wordBytes 8 (runNumbers t heard s (replicate 64 (pos 0))) = called .1 .1 .1 ∙ rw e in
       record {
-        accepted = sym (ran .0) ∙ ap runRefusalIn e;
-        after = sym (ran .1 .1 .0);
-        rounds = sym (ap (λ (l : List ℕ). getD l 4 0) (ran .1 .0));
+        accepted = f;
+        after = rw f (sym (called .1 .0 ∙ rw e));
+        rounds = rw told (number-most 8 (runNumbers t heard s (replicate 64 (pos 0))) 4 (omega arith));
       }
 
-  all-accepted : (heard : List ℕ) (rs : List Seen) → AllRan t heard rs → AllAccepted t heard (map callOf rs)
-  unfolding AllRan AllAccepted
-  all-accepted heard [] a = a
-  all-accepted heard (r ∷ rs) a = let g = as-call heard r (a .0) (a .1 .0) in (g .accepted, rw (g .after) (all-accepted (r .heardNow) rs (a .1 .1)))
+  as-step : (heard : List ℕ) (p : Pair) (numbers heardNow numbersNow : List ℕ)
+      → StepCalled t heard p numbers 0 heardNow numbersNow
+      → AsCall heard (stepped p numbers heardNow numbersNow)
+  unfolding callOf callRefusal heardAfterCall heardNowOf roundsOfCall roundsIn heardStepForC heardAfterStep unless
+  as-step heard p numbers heardNow numbersNow called =
+      let e = step-zero t heard p numbers (sym (called .0)) in
+      let f = step-none t heard p numbers e in
+      record { accepted = f; after = rw f (sym (called .1 .0 ∙ rw e)); rounds = omega arith }
 
-  all-left : (heard : List ℕ) (rs : List Seen) → AllRan t heard rs → heardAfter t heard (map callOf rs) ≡ heardLeft heard rs
-  unfolding AllRan heardAfter heardLeft
-  all-left heard [] a = refl
-  all-left heard (r ∷ rs) a = let g = as-call heard r (a .0) (a .1 .0) in
-      ap (λ (h : List ℕ). heardAfter t h (map callOf rs)) (g .after) ∙ all-left (r .heardNow) rs (a .1 .1)
+  -- What the contracts say of all of them.
+  record AsCalls (heard : List ℕ) (rs : List Seen) : Type 0 where
+    accepted : AllAccepted t heard (map callOf rs)
+    left : heardAfter t heard (map callOf rs) ≡ heardLeft heard rs
+    rounds : roundsSeen rs ≤ roundsAnswered t heard (map callOf rs)
 
-  all-seen : (heard : List ℕ) (rs : List Seen) → AllRan t heard rs → roundsAnswered t heard (map callOf rs) ≡ roundsSeen rs
-  unfolding AllRan roundsAnswered roundsSeen
-  all-seen heard [] a = refl
-  all-seen heard (r ∷ rs) a = let g = as-call heard r (a .0) (a .1 .0) in rw (g .after, g .rounds, all-seen (r .heardNow) rs (a .1 .1))
+  more : (heard : List ℕ) (r : Seen) (rs : List Seen) → AsCall heard r → AsCalls (heardNowOf r) rs → AsCalls heard (r ∷ rs)
+  unfolding AllAccepted heardAfter heardLeft roundsAnswered roundsSeen
+  more heard r rs one rest =
+      record {
+        accepted = (one .accepted, rw (one .after) (rest .accepted));
+        left = ap (λ (h : List ℕ). heardAfter t h (map callOf rs)) (one .after) ∙ rest .left;
+        rounds = omega (arith, one .rounds, rest .rounds, ap (λ (h : List ℕ). roundsAnswered t h (map callOf rs)) (one .after));
+      }
 
--- What the collector can read off: the choice of v, as the byte that `choices` answers and as a path, is what its row shows; and it stays.
-pub record Shown (t rows heard : List ℕ) (v : ℕ) : Type 0 where
-  pub byte : v ≢ 0 → getD (choicesIn t heard) v 0 ≡ getD (rowAt rows v) 1 0
-  pub path : choice (pathsOf t) heard v ≡ pathShown (rowAt rows v)
-  pub stays : Stays t heard v
+  as-calls : (heard : List ℕ) (rs : List Seen) → AllCalled t heard rs → AsCalls heard rs
+  unfolding AllCalled AllAccepted heardAfter heardLeft roundsAnswered roundsSeen heardNowOf
+  as-calls heard [] a = record { accepted = a; left = refl; rounds = omega arith }
+  as-calls heard (ran s sums numbers heardNow sumsNow numbersNow ∷ rs) a =
+      more heard _ rs (as-run heard s sums numbers heardNow sumsNow numbersNow (a .0)) (as-calls heardNow rs (a .1))
+  as-calls heard (stepped p numbers heardNow numbersNow ∷ rs) a =
+      more heard _ rs (as-step heard p numbers heardNow numbersNow (a .0)) (as-calls heardNow rs (a .1))
 
--- what is as reported can be read off so
-reported-shown : (t heard : List ℕ) (v : ℕ)
-    → refusal t ≡ none
-    → v < 64
-    → Stays t heard v
-    → Shown t (report t .rows) heard v
-unfolding choicesIn unless choiceBytes byteFor rankIn
-reported-shown t heard v accepted h stays =
-    let paths = pathsOf t in
-    record {
-      byte = λ z. rw accepted
-          (tabulate-at (λ u. byteFor paths u (choice paths heard u)) 64 v 0 h ∙ ap (placeIn (choice paths heard v)) (speaks-other paths v z) ∙ stays .now .rank);
-      path = stays .now .path;
-      stays = stays;
-    }
+-- What the collector holds: a check of the table, a valid heard state, and calls on it. No entry has refused.
+pub record Collected (t rows ring numbers rowsNow ringNow numbersNow heard : List ℕ) (rs : List Seen) : Type 0 where
+  pub check : CheckCalled t rows ring numbers 0 rowsNow ringNow numbersNow
+  pub state : Valid t heard
+  pub calls : AllCalled t heard rs
 
--- the theorem over the report
-seen-settles : (t : List ℕ)
-    → refusal t ≡ none
-    → (heard : List ℕ)
-    → Valid t heard
-    → (rs : List Seen)
-    → AllRan t heard rs
-    → (v : ℕ)
-    → v < 64
-    → getD (rowOf t v) 0 0 ≤ 63
-    → getD (rowOf t v) 0 0 * report t .hops ≤ roundsSeen rs
-    → Shown t (report t .rows) (heardLeft heard rs) v
-seen-settles t accepted heard valid rs ran v h counted enough =
-    let calls = map callOf rs in
-    let given : Given t heard v (getD (rowOf t v) 0 0) calls =
-    record {
-      table = accepted;
-      row = record { vertex = h; stage = refl; isStage = counted };
-      state = valid;
-      each = all-accepted t heard rs ran;
-    } in
-    let stays = settling-answered t heard v (getD (rowOf t v) 0 0) calls given (rw (all-seen t heard rs ran) enough) in
-    rw (← (all-left t heard rs ran)) (reported-shown t (heardAfter t heard calls) v accepted h stays)
+module _ (t rows ring numbers rowsNow ringNow numbersNow heard : List ℕ) (rs : List Seen)
+    (held : Collected t rows ring numbers rowsNow ringNow numbersNow heard rs) (v : ℕ) (vertex : v < 64)
+    (isStage : getD (rowAt rowsNow v) 0 0 ≤ 63) where
+  none-left : checkRefusalForC t rows ring numbers ≡ none
+  none-left = check-zero t rows ring numbers (sym (held .check .0))
 
--- a check that is not refused has accepted the table and what was lent
-not-refused : (t rows ring : List ℕ) (a : Answer) (rowsNow ringNow : List ℕ)
-    → Checked t rows ring a rowsNow ringNow
-    → ((n k : ℕ) → a .verdict ≢ Refused n k)
-    → checkRefusal t rows ring ≡ none
-unfolding checkVerdict verdict meaning
-not-refused t rows ring a rowsNow ringNow checked fine =
-    by-option (checkRefusal t rows ring) (λ e. e)
-    (λ r e. absurd (fine (r .number) (r .place)
-    (meaning-tells (a .verdict) (Refused (r .number) (r .place)) (checked .0 ∙ rw (e, verdict)))))
+  fine : checkRefusal t rows ring ≡ none
+  fine = check-none t rows ring numbers none-left
 
--- The collector checks a table, and lets runs follow from a valid heard state; nothing is refused. If the stage in a router's row times
--- the check's L is no more than the rounds that the runs answered together, the router's choice is what its row shows, and stays so.
-pub collected : (t rows ring : List ℕ) (a : Answer) (rowsNow ringNow : List ℕ)
-    → Checked t rows ring a rowsNow ringNow
-    → ((n k : ℕ) → a .verdict ≢ Refused n k)
-    → (heard : List ℕ)
-    → Valid t heard
-    → (rs : List Seen)
-    → AllRan t heard rs
-    → (v : ℕ)
-    → v < 64
-    → getD (rowAt rowsNow v) 0 0 ≤ 63
-    → getD (rowAt rowsNow v) 0 0 * a .longest ≤ roundsSeen rs
-    → Shown t rowsNow (heardLeft heard rs) v
-unfolding rowsAfter checkNumbers unless numbers
-collected t rows ring a rowsNow ringNow checked fine heard valid rs ran v h counted enough =
-    let e = not-refused t rows ring a rowsNow ringNow checked fine in
-    let accepted = check-admitted t rows ring e in
-    let same : rowsNow ≡ report t .rows = checked .1 .1 .0 ∙ rw e in
-    let longest : a .longest ≡ report t .hops = ap (λ (l : List ℕ). getD l 4 0) (checked .1 .0) ∙ rw e in
-    rw same (seen-settles t accepted heard valid rs ran v h (rw same at counted) (rw (same, longest) at enough))
+  accepted : refusal t ≡ none
+  accepted = check-admitted t rows ring fine
+
+  same-rows : rowsNow ≡ report t .rows
+  unfolding rowsForC unless
+  same-rows = held .check .1 .0 ∙ rw none-left
+
+  -- the number at 4 of the check's numbers is L
+  same-hops : numberAt numbersNow 4 ≡ report t .hops
+  unfolding checkNumbersForC checkNumbers numberBytes unless report
+  same-hops =
+      let told : numbersNow ≡ wordBytes 8 (checkNumbers t rows ring) = held .check .1 .1 .1 ∙ rw none-left in
+      let hops : getD (checkNumbers t rows ring) 4 0 ≡ report t .hops = rw fine in
+      ap (λ (l : List ℕ). numberAt l 4) told
+      ∙ number-told 8 (checkNumbers t rows ring) 4 (omega arith) (omega (arith, hops, longest-most t accepted)) ∙ hops
+
+  -- the stage that the row of v reports, times the L that the check answered
+  abbrev pub enough : ℕ
+  enough = getD (rowAt rowsNow v) 0 0 * numberAt numbersNow 4
+
+  given : Given t heard v (getD (rowOf t v) 0 0) (map callOf rs)
+  given =
+      record {
+        table = accepted;
+        row = record { vertex = vertex; stage = refl; isStage = rw same-rows at isStage };
+        state = held .state;
+        each = as-calls t heard rs (held .calls) .accepted;
+      }
+
+  enough-is : enough ≡ getD (rowOf t v) 0 0 * report t .hops
+  enough-is = rw (same-rows, same-hops)
+
+  -- If it is no more than the rounds that the runs answered together, the router's choice is what its row shows, and stays so.
+  pub collected : enough ≤ roundsSeen rs
+      → (choice (pathsOf t) (heardLeft heard rs) v ≡ pathShown (rowAt rowsNow v)) × Stays t (heardLeft heard rs) v
+  collected h =
+      let all = as-calls t heard rs (held .calls) in
+      let stays = settling-answered t heard v _ (map callOf rs) given (omega (arith, enough-is, all .rounds)) in
+      let here : Stays t (heardLeft heard rs) v = rw (all .left) at stays in
+      (here .now .path ∙ ap (λ (rows : List ℕ). pathShown (rowAt rows v)) (sym same-rows), here)
+
+  -- With one round more the collector sees it in the heard state: every router that listens to it holds the rank in its row.
+  pub collected-heard : suc enough ≤ roundsSeen rs
+      → v ≢ 0
+      → (w : ℕ)
+      → listens (pathsOf t) w v ≡ true
+      → getD (heardLeft heard rs) (64 * w + v) 0 ≡ getD (rowAt rowsNow v) 1 0
+  unfolding heardAfter AllAccepted
+  collected-heard h z w l =
+      let all = as-calls t heard rs (held .calls) in
+      let rounds = contains-fewer (listeningPairs t) (suc (getD (rowOf t v) 0 0 * report t .hops)) _ (pairsOf (map callOf rs)) (omega (arith, enough-is, all .rounds))
+      (answered-contained t heard (map callOf rs) (all .accepted)) in
+      ap (λ (x : List ℕ). getD x (64 * w + v) 0) (sym (all .left))
+      ∙ settling-heard t heard v _ (map callOf rs) given rounds z w l [] tt
+      ∙ ap (λ (rows : List ℕ). getD (rowAt rows v) 1 0) (sym same-rows)

@@ -16,34 +16,34 @@ use Rattle.rules.specs.Run.{pairsIn}
 use Rattle.rules.specs.Answers.{otherLength, scheduleBad, firstBadPair, checkRefusal, stepRefusal, runRefusal}
 use Rattle.rules.specs.TableLaws.{at}
 
-other-length : {A : Type 0} (n : ℕ) (l : List A) → (length l ≡ n → ⊥) → otherLength n l ≡ true
+pub other-length : {A : Type 0} (n : ℕ) (l : List A) → (length l ≡ n → ⊥) → otherLength n l ≡ true
 unfolding otherLength
 other-length n l f = by-less (length l) n (below-out n n (length l)) (λ h. above-out n n (length l) (omega arith))
 
-same-length : {A : Type 0} (n : ℕ) (l : List A) → length l ≡ n → otherLength n l ≡ false
+pub same-length : {A : Type 0} (n : ℕ) (l : List A) → length l ≡ n → otherLength n l ≡ false
 unfolding otherLength
 same-length n l e = is-inside n n (length l) (omega arith) (omega arith)
 
 -- of two lent buffers one has another length, or neither has
 
 module _ {A B : Type 0} (m n : ℕ) (a : List A) (b : List B) where
-  first-other : (length a ≡ m → ⊥) → otherLength m a || otherLength n b ≡ true
+  pub first-other : (length a ≡ m → ⊥) → otherLength m a || otherLength n b ≡ true
   first-other f = or-left (otherLength m a) (otherLength n b) (other-length m a f)
 
-  second-other : (length b ≡ n → ⊥) → otherLength m a || otherLength n b ≡ true
+  pub second-other : (length b ≡ n → ⊥) → otherLength m a || otherLength n b ≡ true
   second-other f = or-right (otherLength m a) (otherLength n b) (other-length n b f)
 
-  both-same : length a ≡ m → length b ≡ n → otherLength m a || otherLength n b ≡ false
+  pub both-same : length a ≡ m → length b ≡ n → otherLength m a || otherLength n b ≡ false
   both-same d e = neither (otherLength m a) (otherLength n b) (same-length m a d) (same-length n b e)
 
 -- a test at the head of the checks decides where it holds, and leaves it to the rest where it fails
 
 module _ (test : Bool) (n : ℕ) (rest : Option Refusal) where
-  if-decides : test ≡ true → refusedIf test n orElse rest ≡ at n 0
+  pub if-decides : test ≡ true → refusedIf test n orElse rest ≡ at n 0
   unfolding refusedIf _orElse_
   if-decides e = rw e
 
-  if-passes : test ≡ false → refusedIf test n orElse rest ≡ rest
+  pub if-passes : test ≡ false → refusedIf test n orElse rest ≡ rest
   unfolding refusedIf _orElse_
   if-passes e = rw e
 
@@ -160,7 +160,7 @@ unfolding refusedAt
 at-none none n e = refl
 at-none (some k) n e = absurd (none≢some e refl)
 
-both-none : (a b : Option Refusal) → a orElse b ≡ none → (a ≡ none) × (b ≡ none)
+pub both-none : (a b : Option Refusal) → a orElse b ≡ none → (a ≡ none) × (b ≡ none)
 unfolding _orElse_
 both-none none b e = (refl, e)
 both-none (some r) b e = absurd (none≢some e refl)

@@ -10,6 +10,7 @@ pub mod Refusals
 pub mod Answers
 pub mod Text
 pub mod RunText
+pub mod Entries
 -- The worked examples.
 pub mod Examples
 pub mod TextExamples
@@ -31,6 +32,7 @@ pub mod RunLaws
 pub mod RoundLaws
 pub mod ScheduleLaws
 pub mod AnswerLaws
-pub mod PlaceLaws
+pub mod RefusalLaws
+pub mod EntryLaws
 pub mod TextLaws
 pub mod RunTextLaws

@@ -12,7 +12,7 @@ use lib.Dec.{eqb}
 use borrow.Author.Tests.{eqb-true, eqb-false}
 use Rattle.lists.specs.Search.{anyBelow, anyIn, elem, outside}
 use Rattle.lists.specs.Tests.{by-test, inside, or-cases, or-none, or-right}
-use Rattle.lists.specs.SearchLaws.{any-below, some-below, max-bounds}
+use Rattle.lists.specs.SearchLaws.{any-below, some-below, max-bounds, max-most}
 use Rattle.lists.specs.ListLaws.{none-at, elem-at, elem-place, twice-apart}
 use Rattle.rules.specs.Table.{records, recordAt, hopsAt, pathAt, ownerAt, rankOf, hopsOf, pathOf, pathsOf, present, longest}
 use Rattle.rules.specs.Refusals.{refusal, hopsBad, vertexBad, unusedOf, fillerBad, twiceBad, lastBad}
@@ -167,6 +167,11 @@ module _ (t : List ℕ) (e : refusal t ≡ none) where
         origin = always-0;
         range = present-range;
       }
+
+  -- the longest has no more hops than a record can have
+  pub longest-most : longest t ≤ 12
+  unfolding longest hopsBad
+  longest-most = max-most (hopsAt t) 12 (records t) (λ i h. inside 1 12 (hopsAt t i) (accepted t e .kept i h .hops) .1)
 
   -- no path has more hops than the longest
   pub path-longest : (v k : ℕ) → k < length (pathsOf t v) → length (getD (pathsOf t v) k []) ≤ suc (longest t)

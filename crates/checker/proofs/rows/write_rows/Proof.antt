@@ -4,8 +4,9 @@ use mathlib.Core.Path.{_≡_, refl, sym, _∙_}
 use Prim.Native.Nat.{_≤_, _-_, _*_}
 use native.Mathlib.Omega.{arith}
 use lib.ListN.{length, take, length-take}
-use Rattle.checker.specs.RowLaws.{first-written, next-written, all-written, part-length, path-most, shown-record}
+use Rattle.checker.specs.RowLaws.{first-written, next-written, all-written, path-most, shown-record}
 use Rattle.lists.specs.Fill.{blocks}
+use Rattle.lists.specs.Parts.{part-length}
 use Rattle.checker.specs.Rows.{shownRow}
 use Rattle.checker.proofs.rows.write_rows.Statement.{statement}
 use Rattle.checker.proofs.rows.write_rows.Tie as tie
@@ -74,7 +75,7 @@ path-at-requires c κs = omega arith
 write-row-requires-2 : tie.Need-write-row-requires-2 Inv-loop μ-loop
 write-row-requires-2 c κs =
     let a = c .before .before .before .before .before .before in
-    (part-length (a .loop .rows) (a .loop .v * 16) (omega (arith, a .loop .inv .2)), rw (c .path-at .ensures) (path-most _ _))
+    (part-length (a .loop .rows) (a .loop .v * 16) 16 (omega (arith, a .loop .inv .2)), rw (c .path-at .ensures) (path-most _ _))
 
 add-v : tie.Need-add-v Inv-loop μ-loop
 add-v c = omega arith
