@@ -274,13 +274,8 @@ class Tables(unittest.TestCase):
             self.assertTrue(rests(example.routes, example.routes.storing(assigned)))
 
 
-def add_tests(case):
-    for name in EXAMPLES:
-        setattr(case, f"test_{name.lower().replace(' ', '_').replace('-', '_')}", lambda self, name=name: self.held(name))
-
-
 for case in (Printed, Selected, Tables):
-    add_tests(case)
+    test_samples.add_tests(case, EXAMPLES)
 
 
 class Program(unittest.TestCase):

@@ -35,7 +35,8 @@ pub fn title_text(title: &[u8], pairs: &[u8], text: &mut [u8]) -> usize
     put(text, listed, b"\n")
 }
 
-// Runs the pairs from the heard state, lays the text of the run over the front of the lent text, and answers how many bytes that is.
+// Runs the pairs from the heard state, lays the text of the run over the front of the lent text, and answers how many
+// bytes that is.
 pub fn run_from(table: &[u8], heard: &mut [u8], pairs: &[u8], text: &mut [u8]) -> usize
     ensures text { λ r. ⌜ Laid 0 (runText (now (table .entry)) (now (heard .entry)) (now (pairs .entry)) (replicate 64 (pos 0))) (now (text .entry)) (now (text .exit)) r ⌝ }
     ensures heard { λ r. ⌜ now (heard .exit) ≡ heardAfterRun (now (table .entry)) (now (heard .entry)) (now (pairs .entry)) (replicate 64 (pos 0)) ⌝ }

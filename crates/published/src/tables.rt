@@ -24,7 +24,8 @@ pub fn bad_gadget() -> [u8; 96]
        \x02\x01\x03\x00\xff\xff\xff\xff\xff\xff\xff\xff\xff\xff\xff\x00"
 }
 
-// BLEEDIN-EDGE: 1: (1 2 4 0), (1 0); 2: (2 4 3 0), (2 4 0), (2 1 0), (2 3 0); 3: (3 2 1 0), (3 0); 4: (4 3 0), (4 2 3 0), (4 0).
+// BLEEDIN-EDGE: 1: (1 2 4 0), (1 0); 2: (2 4 3 0), (2 4 0), (2 1 0), (2 3 0); 3: (3 2 1 0), (3 0);
+// 4: (4 3 0), (4 2 3 0), (4 0).
 pub fn bleedin_edge() -> [u8; 176]
     ensures { λ r. ⌜ r ≡ bleedinEdgeBytes ⌝ }
 {

@@ -1,4 +1,5 @@
-// The published examples of paper 001, run: of each its check, then its rows and states and what the machine makes of them.
+// The published examples of paper 001, run: of each its check, then its rows and states, and what the machine makes of
+// them.
 use libc::STDOUT_FILENO;
 use printed::check_text;
 use published::lines::part;
@@ -29,8 +30,8 @@ fn show_check(table: &[u8]) {
     say(&text[..length]);
 }
 
-// A row, as so many of the rows' bytes from a place on: its title with its pairs, listener first, then the run of them from the heard
-// state, one by one.
+// A row, as so many of the rows' bytes from a place on: its title with its pairs, listener first, then the run of them
+// from the heard state, one by one.
 fn show_row(title: &[u8], table: &[u8], heard: &mut [u8], rows: &[u8], from: usize, count: usize) {
     let pairs = part(rows, from, count);
     let mut text = [0; 8192];
@@ -91,7 +92,8 @@ fn show_table_4(table: &[u8], rows: &[u8], turned: &[u8]) {
     show_row(b"row 3, 2 first, pairs", table, &mut other, turned, 0, 4);
 }
 
-// From row 3's state the rows 4 to 9 follow one by one, and then row 2 again; in two functions, so that each is proved by itself.
+// From row 3's state the rows 4 to 9 follow one by one, and then row 2 again; in two functions, so that each is proved
+// by itself.
 fn show_leftover(table: &[u8], heard: &mut [u8], rows: &[u8]) {
     say(b"Table 4 from the state of its row 3, one by one\n");
     show_row(b"row 3, no pairs", table, heard, rows, 0, 0);

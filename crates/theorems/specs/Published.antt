@@ -1,6 +1,7 @@
--- The published examples of paper 001 as the rules' tables, with its stable states and its activation rows; `PublishedExamples` says what
--- holds of them. 001's figures are not in its text, so each path stands under the sentence or table that it comes from. 001 writes an
--- activated edge from the speaker to the listener; a pair here has the listener first.
+-- The published examples of paper 001 as the rules' tables, with its stable states and its activation rows;
+-- `PublishedExamples` says what holds of them. 001's figures are not in its text, so beside each list stands the table
+-- or sentence of 001 that each path comes from. 001 writes an activated edge from the speaker to the listener; a pair
+-- here has the listener first.
 use Prim.Native.Nat.{ℕ, suc, _+_, _*_, _/_, _%_}
 use mathlib.Core.Bool.{Bool, not}
 use mathlib.Core.Path.{_≡_}
@@ -15,15 +16,16 @@ use Rattle.rules.specs.Run.{pairsIn}
 use Rattle.rules.specs.Answers.{heardAfterStep}
 use Rattle.rules.specs.Examples.{tableBytes}
 
--- DISAGREE, Figure 1b. Table 3 has its four paths, and Table 2 no others; the proof of Property 3.1 says that (v u 0) is v's best.
+-- DISAGREE, Figure 1b, and table 3 of the rules page. Table 3 has its four paths, and Table 2 no others; the proof of
+-- Property 3.1 says that (v u 0) is v's best.
 unfoldable pub disagree : List (List Path)
 disagree =
     ((1 ∷ 2 ∷ 0 ∷ []) ∷ (1 ∷ 0 ∷ []) ∷ [])
     ∷ ((2 ∷ 1 ∷ 0 ∷ []) ∷ (2 ∷ 0 ∷ []) ∷ [])
     ∷ []
 
--- BAD GADGET, Figure 1a. 001 prints none of its paths, and says that it has no stable state: these are the lists by which the name is
--- well known, each router preferring the way through the one before it to its own.
+-- BAD GADGET, Figure 1a. 001's text has none of its paths, and says that it has no stable state: these lists are not
+-- from 001, but those by which the name is well known, in which each router prefers the way through another to its own.
 unfoldable pub badGadget : List (List Path)
 badGadget =
     ((1 ∷ 3 ∷ 0 ∷ []) ∷ (1 ∷ 0 ∷ []) ∷ [])
@@ -32,9 +34,11 @@ badGadget =
     ∷ []
 
 -- BLEEDIN-EDGE, Figure 3a.
--- Router 1: Table 4, row 4, has both paths, and row 8 shows that the longer one is chosen, since then 2 no longer hears (1 0).
--- Router 2: row 4 has (2 4 0), (2 1 0) and (2 3 0) in this order; the proof of Theorem 3.2 puts (2 4 3 0), which is in Table 5, beside
--- (2 4 0) before (2 1 0). Which of those two comes first is not in 001, and changes no run: they are never heard together.
+-- Router 1: Table 4, row 4, has both paths, and row 8 shows that the longer one is chosen, since then 2 no longer hears
+-- (1 0).
+-- Router 2: row 4 has (2 4 0), (2 1 0) and (2 3 0) in this order; the proof of Theorem 3.2 puts (2 4 3 0), which is in
+-- Table 5, beside (2 4 0) before (2 1 0). Which of these two comes first is not in 001, and changes no path that is
+-- chosen: both need what 4 says, and it says one thing at a time.
 -- Router 3: row 6 has both, and row 8 shows that the longer one is chosen, since then 2 no longer hears (3 0).
 -- Router 4: Lemma 3.2 calls (4 3 0) the best; row 3 has (4 2 3 0) and (4 0), and row 5 shows that (4 0) is not chosen.
 unfoldable pub bleedinEdge : List (List Path)
@@ -45,8 +49,9 @@ bleedinEdge =
     ∷ ((4 ∷ 3 ∷ 0 ∷ []) ∷ (4 ∷ 2 ∷ 3 ∷ 0 ∷ []) ∷ (4 ∷ 0 ∷ []) ∷ [])
     ∷ []
 
--- DI-SAFE-GREE, Figure 3b. Table 6, line 0, has all paths, best first; "λ²(2 1 0) < λ²(2 0)" and "its best path (2 3 0)" say the order for
--- router 2, and "preventing vertex 3 from choosing (3 2 0)" that for router 3. It is table 5 of the rules page.
+-- DI-SAFE-GREE, Figure 3b, and table 5 of the rules page. Table 6, line 0, has all paths. For router 2 the proof of
+-- Lemma 5.2 has (2 1 0) before (2 0), and section 4 calls (2 3 0) its best path; for router 3 section 4 says that
+-- (3 2 0) is its best compatible path, as (2 3 0) is that of 2.
 unfoldable pub diSafeGree : List (List Path)
 diSafeGree =
     ((1 ∷ 0 ∷ []) ∷ [])
@@ -91,8 +96,8 @@ bleedinStable = (1 ∷ 0 ∷ []) ∷ (2 ∷ 4 ∷ 3 ∷ 0 ∷ []) ∷ (3 ∷ 0 �
 unfoldable pub diSafeGreeStable : List Path
 diSafeGreeStable = (1 ∷ 0 ∷ []) ∷ (2 ∷ 3 ∷ 0 ∷ []) ∷ (3 ∷ 0 ∷ []) ∷ []
 
--- A row of 001's Tables 2 and 4: the activated pairs as a schedule's bytes, and the path that each of the routers 1, 2, 3 .. has selected
--- after it, [] for ε.
+-- A row of 001's Tables 2 and 4: the activated pairs as a schedule's bytes, and the path that each of the routers 1, 2,
+-- 3 .. has selected after it, [] for ε.
 pub record Row : Type 0 where
   pub pairs : List ℕ
   pub selected : List Path
@@ -104,8 +109,8 @@ table2 =
     ∷ record { pairs = 2 ∷ 1 ∷ 1 ∷ 2 ∷ []; selected = (1 ∷ 0 ∷ []) ∷ (2 ∷ 0 ∷ []) ∷ [] }
     ∷ []
 
--- Rows 1 and 2 of Table 4, row 3, and rows 4 to 9. Row 7 has an edge from 4 to 3 too: router 3 has no path through 4, so it does not
--- listen to 4 under the rules, and the edge is left out.
+-- Rows 1 and 2 of Table 4, row 3, and rows 4 to 9. Row 7 has an edge from 4 to 3 too: router 3 has no path through 4,
+-- so it does not listen to 4 under the rules, and the edge is left out.
 unfoldable pub table4Begin : List Row
 table4Begin =
     record { pairs = 1 ∷ 0 ∷ 3 ∷ 0 ∷ 4 ∷ 0 ∷ []; selected = (1 ∷ 0 ∷ []) ∷ [] ∷ (3 ∷ 0 ∷ []) ∷ (4 ∷ 0 ∷ []) ∷ [] }
@@ -129,7 +134,8 @@ table4End =
 unfoldable pub table4 : List Row
 table4 = table4Begin ++ table4Moment ∷ table4End
 
--- Rows that 001 has in words only. The proof of Property 3.1: after row 1 of Table 2, row 2's pairs one after the other, 2 or 1 first.
+-- Rows that 001 has in words only. The proof of Property 3.1: after row 1 of Table 2, row 2's pairs one after the
+-- other, 2 or 1 first.
 unfoldable pub disagreeTwoFirst : List Row
 disagreeTwoFirst =
     record { pairs = 1 ∷ 0 ∷ 2 ∷ 0 ∷ []; selected = (1 ∷ 0 ∷ []) ∷ (2 ∷ 0 ∷ []) ∷ [] }
@@ -168,8 +174,8 @@ bleedinRound =
       selected = bleedinStable;
     }
 
--- DI-SAFE-GREE, section 4: "vertices 1, 2, and 3 learn about the direct path to 0. After that, .. 2 learns about (2 1 0)" and 3 no longer has
--- (3 2 0). "Finally, .. 2 switches to its best path (2 3 0)", and all hear it.
+-- DI-SAFE-GREE, section 4: "vertices 1, 2, and 3 learn about the direct path to 0. After that, .. 2 learns about
+-- (2 1 0)", and 3 no longer has (3 2 0). "Finally, .. 2 switches to its best path (2 3 0)", and 3 hears it.
 unfoldable pub diSafeGreeRows : List Row
 diSafeGreeRows =
     record { pairs = 1 ∷ 0 ∷ 2 ∷ 0 ∷ 3 ∷ 0 ∷ 3 ∷ 2 ∷ []; selected = (1 ∷ 0 ∷ []) ∷ (2 ∷ 0 ∷ []) ∷ (3 ∷ 2 ∷ 0 ∷ []) ∷ [] }
@@ -183,7 +189,8 @@ pairsOfRows [] = []
 pairsOfRows (r ∷ rs) = r .pairs ++ pairsOfRows rs
 
 module _ (paths : ℕ → List Path) where
-  -- a row as 001 has it: all its pairs at one moment, each hearing what its speaker has selected before it; the rules have no such step
+  -- a row as 001 has it: all its pairs at one moment, each hearing what its speaker has selected before it; the rules
+  -- have no such step
   unfoldable pub atOnce : List ℕ → List ℕ → List ℕ
   atOnce heard pairs = foldLeft (λ h p. set h (offsetOf p) (byteFor paths (p .speaker) (choice paths heard (p .speaker)))) heard (pairsIn pairs)
 
@@ -214,7 +221,8 @@ OneByOne t n heard rows = selectedAfter (pathsOf t) (oneByOne (pathsOf t)) n hea
 unfoldable pub nothingHeard : List ℕ
 nothingHeard = replicate 4096 0
 
--- Row 3's state: 1, 3 and 4 have heard (0), 2 has heard (3 0) and (4 0), by their ranks 2 and 3, and 4 has heard (2 3 0), of rank 4.
+-- Row 3's state: 1, 3 and 4 have heard (0), 2 has heard (3 0) and (4 0), by their ranks 2 and 3, and 4 has heard
+-- (2 3 0), of rank 4.
 unfoldable pub rowThree : List ℕ
 rowThree =
     let direct = set (set (set nothingHeard (64 * 1 + 0) 1) (64 * 3 + 0) 1) (64 * 4 + 0) 1 in

@@ -28,8 +28,9 @@ use Rattle.theorems.specs.RestingPoints.{rests-resting, resting-stable}
 use Rattle.theorems.specs.PublishedLaws.{Stores, otherStored, stored-rests, Crossed, never-crossed, StableState, Routers, unstable, everyDraw, samePaths, Only, tested-stable, stable-named}
 use Rattle.theorems.specs.Published.{disagree, badGadget, bleedinEdge, diSafeGree, disagreeBytes, badGadgetBytes, bleedinEdgeBytes, diSafeGreeBytes, assigned, routersPaths, disagreeFirst, disagreeSecond, bleedinStable, diSafeGreeStable, Row, table2, table4Begin, table4Moment, table4End, table4, disagreeTwoFirst, disagreeOneFirst, badGadgetRound, badGadgetRounds, edgeFourFirst, edgeTwoFirst, bleedinRound, diSafeGreeRows, atOnce, oneByOne, afterRows, selectedIn, selectedAfter, AtOnce, OneByOne, nothingHeard, rowThree}
 
--- What the first check says of each: a line is a router, its stage (255 for stuck), and its rank and path; then stages, longest and ring.
--- 001, section 4: "At the first iteration, vertex 1 enters the stable set .. At the second iteration, the algorithm forcedly stops."
+-- What the first check says of each: a line is a router, its stage (255 for stuck), and its rank and path; then stages,
+-- longest and ring. Of DI-SAFE-GREE section 4 says: "At the first iteration, vertex 1 enters the stable set .. At the
+-- second iteration, the algorithm forcedly stops."
 unfoldable pub checks : List Example
 checks =
     record {
@@ -186,8 +187,8 @@ followed =
       diSafeGreeRests = record { long = refl; same = refl };
     }
 
--- The two stable states of Table 3, the one of Table 5 and the solution of Table 6: stable in the rules' sense, and no step changes the
--- heard state that stores them ..
+-- The two stable states of Table 3, the one of Table 5 and the solution of Table 6: stable in the rules' sense, and no
+-- step changes the heard state that stores them ..
 pub disagree-first : StableState disagreeBytes disagreeFirst
 disagree-first = tested-stable disagreeBytes 2 (computed .disagreeRouters) disagreeFirst (computed .firstPasses)
 
@@ -254,7 +255,8 @@ bleedin-edge-rests = stored-rests bleedinEdgeBytes _ bleedinStable bleedin-edge-
 pub di-safe-gree-rests : Rests diSafeGreeBytes (afterRows (oneByOne (pathsOf diSafeGreeBytes)) nothingHeard diSafeGreeRows)
 di-safe-gree-rests = stored-rests diSafeGreeBytes _ diSafeGreeStable di-safe-gree-stable (followed .diSafeGreeRests)
 
--- Row 3 of Table 4 needs its moment. Where 2 has heard (4 0) it has a better path than (2 3 0), the one that 4 must hear in row 3 ..
+-- Row 3 of Table 4 needs its moment. Where 2 has heard (4 0) it has a better path than (2 3 0), the one that 4 must
+-- hear in row 3 ..
 two-chooses : (given : ℕ → Path) → given 4 ≡ 4 ∷ 0 ∷ [] → bestGiven (pathsOf bleedinEdgeBytes) given 2 ≡ 2 ∷ 4 ∷ 0 ∷ []
 unfolding bestGiven extends rest nextHop same
 two-chooses given e =

@@ -1,5 +1,6 @@
--- Laws for the published examples: whether an assignment is stable is a test, all stable assignments are found by trying every list of
--- paths, and a heard state that no step at a pair of vertices changes is one in which the machine rests.
+-- Laws for the published examples: whether an assignment is stable is a test, all stable assignments are found by
+-- trying every list of paths, a heard state that no step at a pair of vertices changes is one in which the machine
+-- rests, and two pairs that hear each other cannot both hold what the other does not choose.
 use Prim.Native.Nat.{ℕ, zero, suc, pred, _<_, _≤_, _+_, _*_}
 use mathlib.Core.Path.{_≡_, refl, sym, ap, _∙_, subst}
 use mathlib.Core.Logic.{_≢_, _⊎_, ⊎-elim}
@@ -201,7 +202,8 @@ is-storing t heard ps stores =
 pub stored-rests : (t heard : List ℕ) (ps : List Path) → StableState t ps → Stores t ps heard → Rests t heard
 stored-rests t heard ps state stores = subst (Rests t) (sym (is-storing t heard ps stores)) (state .rests)
 
--- v and u listen to each other, and who has heard the one byte does not choose the other: then no step makes both pairs hold these bytes
+-- v and u listen to each other, and who has heard the one byte does not choose the other: then no step makes both pairs
+-- hold these bytes
 
 module _ (paths : ℕ → List Path) (v u b c : ℕ) (small : v < 64) (smaller : u < 64) (apart : v ≢ u) where
   abbrev pub Crossed : List ℕ → Type 0

@@ -1,4 +1,4 @@
--- `published::lines::run_from` meets its contract: what the run's answer prints is the text of the run from the heard state.
+-- `published::lines::run_from` meets its contract: what the run's answer prints is the text of the run.
 -- Assumes nothing.
 use borrow.Author.Needs.{needs}
 use Rattle.letters.specs.LayLaws.{laid-as}
