@@ -1,0 +1,17 @@
+-- `reefsplice::code_of` meets its contract: the place is small, so that the number fits.
+-- Assumes nothing.
+use borrow.Author.Needs.{needs}
+use Rattle.reefsplice.proofs.code_of.Statement.{statement}
+use Rattle.reefsplice.proofs.code_of.Tie as tie
+
+mul-result : tie.Need-mul-result
+mul-result c = search needs
+
+add-result : tie.Need-add-result
+add-result c = search needs
+
+returns : tie.Need-returns
+returns c = search needs
+
+pub code-of-spec : {M : Type 1} → statement M
+code-of-spec = tie.close (tie.spec mul-result add-result returns)
