@@ -303,7 +303,7 @@ def changes(routes, starts):
     return found
 
 
-def ends(found):
+def unending(found):
     """The states that are left when states all of whose steps lead to removed ones are removed again and again: none
     exactly where no order of steps changes the state for ever."""
     left = dict(found)
@@ -319,7 +319,7 @@ class Orders(unittest.TestCase):
     def test_disagree_comes_to_rest_under_every_order(self):
         for starts in ([ZEROS], DISAGREE.routes.heard_states()):
             found = changes(DISAGREE.routes, starts)
-            self.assertEqual(ends(found), {})
+            self.assertEqual(unending(found), {})
             resting = {heard for heard, after in found.items() if not after}
             self.assertEqual(resting, {DISAGREE.routes.storing(assigned) for assigned in TABLE_3})
 
@@ -354,7 +354,7 @@ class Orders(unittest.TestCase):
 
     def test_di_safe_gree_comes_to_rest_under_every_order(self):
         found = changes(DI_SAFE_GREE.routes, [ZEROS])
-        self.assertEqual(ends(found), {})
+        self.assertEqual(unending(found), {})
         self.assertEqual([heard for heard, after in found.items() if not after], [DI_SAFE_GREE.routes.storing(TABLE_6)])
 
 

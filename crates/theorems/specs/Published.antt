@@ -221,12 +221,17 @@ OneByOne t n heard rows = selectedAfter (pathsOf t) (oneByOne (pathsOf t)) n hea
 unfoldable pub nothingHeard : List ℕ
 nothingHeard = replicate 4096 0
 
--- Row 3's state: 1, 3 and 4 have heard (0), 2 has heard (3 0) and (4 0), by their ranks 2 and 3, and 4 has heard
--- (2 3 0), of rank 4.
+-- In every row from the first on 1, 3 and 4 have heard (0).
+unfoldable pub directHeard : List ℕ
+directHeard = set (set (set nothingHeard (64 * 1 + 0) 1) (64 * 3 + 0) 1) (64 * 4 + 0) 1
+
+-- Row 3's state: 2 has heard (3 0) and (4 0), by their ranks 2 and 3, and 4 has heard (2 3 0), of rank 4.
 unfoldable pub rowThree : List ℕ
-rowThree =
-    let direct = set (set (set nothingHeard (64 * 1 + 0) 1) (64 * 3 + 0) 1) (64 * 4 + 0) 1 in
-    set (set (set direct (64 * 2 + 3) 2) (64 * 2 + 4) 3) (64 * 4 + 2) 4
+rowThree = set (set (set directHeard (64 * 2 + 3) 2) (64 * 2 + 4) 3) (64 * 4 + 2) 4
+
+-- Row 9's state: 2 has heard (1 2 4 0), (3 2 1 0) and (4 2 3 0), by their ranks 1, 1 and 2, and 4 has heard (3 2 1 0).
+unfoldable pub rowNine : List ℕ
+rowNine = set (set (set (set directHeard (64 * 2 + 1) 1) (64 * 2 + 3) 1) (64 * 2 + 4) 2) (64 * 4 + 3) 1
 
 -- whether a step at some pair of vertices changes the heard state
 unfoldable pub pairAt : ℕ → Pair

@@ -2,7 +2,7 @@
 use Prim.Native.Nat.{ℕ, _+_, _*_}
 use mathlib.Core.Path.{_≡_, refl, sym, ap, _∙_, subst}
 use mathlib.Core.Logic.{_⊎_, inl, inr, ⊎-elim}
-use mathlib.Core.Bool.{true, false}
+use mathlib.Core.Bool.{false}
 use mathlib.Core.List.{List, [], _∷_, _++_, map}
 use mathlib.Core.Option.{none}
 use native.Mathlib.Omega.{arith}
@@ -26,7 +26,7 @@ use Rattle.theorems.specs.Claims.{Call, AllAccepted, heardAfter, pairsOf
 use Rattle.theorems.specs.CallLaws.{all-after, all-range}
 use Rattle.theorems.specs.RestingPoints.{rests-resting, resting-stable}
 use Rattle.theorems.specs.PublishedLaws.{Stores, otherStored, stored-rests, Crossed, never-crossed, StableState, Routers, unstable, everyDraw, samePaths, Only, tested-stable, stable-named}
-use Rattle.theorems.specs.Published.{disagree, badGadget, bleedinEdge, diSafeGree, disagreeBytes, badGadgetBytes, bleedinEdgeBytes, diSafeGreeBytes, assigned, routersPaths, disagreeFirst, disagreeSecond, bleedinStable, diSafeGreeStable, Row, table2, table4Begin, table4Moment, table4End, table4, disagreeTwoFirst, disagreeOneFirst, badGadgetRound, badGadgetRounds, edgeFourFirst, edgeTwoFirst, bleedinRound, diSafeGreeRows, atOnce, oneByOne, afterRows, selectedIn, selectedAfter, AtOnce, OneByOne, nothingHeard, rowThree}
+use Rattle.theorems.specs.Published.{disagree, badGadget, bleedinEdge, diSafeGree, disagreeBytes, badGadgetBytes, bleedinEdgeBytes, diSafeGreeBytes, assigned, routersPaths, disagreeFirst, disagreeSecond, bleedinStable, diSafeGreeStable, table2, table4Begin, table4Moment, table4End, table4, disagreeTwoFirst, disagreeOneFirst, badGadgetRound, badGadgetRounds, edgeFourFirst, edgeTwoFirst, bleedinRound, diSafeGreeRows, atOnce, oneByOne, afterRows, selectedIn, selectedAfter, AtOnce, OneByOne, nothingHeard, directHeard, rowThree, rowNine}
 
 -- What the first check says of each: a line is a router, its stage (255 for stuck), and its rank and path; then stages,
 -- longest and ring. Of DI-SAFE-GREE section 4 says: "At the first iteration, vertex 1 enters the stable set .. At the
@@ -99,7 +99,7 @@ unfolding outside anyBelow anyIn firstIn elem same maxBelow twice tabulate padde
     hopsBad vertexBad unusedOf fillerBad twiceBad lastBad ownerBad rankDue rankBad pathBad inRecord rule recordRules firstBroken
     fault faulty firstBad badRecord tooLong ragged refusal extends bestGiven placeIn speaks byteFor pathFor badAt badByte heardFault
     recordBytes blockBytes tableBytes disagree badGadget bleedinEdge diSafeGree disagreeBytes badGadgetBytes bleedinEdgeBytes diSafeGreeBytes
-    assigned disagreeFirst disagreeSecond bleedinStable diSafeGreeStable nothingHeard rowThree unstable everyDraw samePaths
+    assigned disagreeFirst disagreeSecond bleedinStable diSafeGreeStable nothingHeard directHeard rowThree rowNine unstable everyDraw samePaths
 computed =
     record {
       disagreeRouters = record { accepted = refl; others = refl; all = refl };
@@ -130,8 +130,11 @@ computed =
 
 -- What is found by computing of the rows.
 pub record Followed : Type 0 where
-  -- Table 2, all pairs of a row at one moment: the choices come back. One after the other they end in a stable state.
+  -- Table 2, all pairs of a row at one moment: row 3 selects what row 1 does, and rows 2 and 3 can go on for ever. One after
+  -- the other they end in a stable state.
   pub disagreeMoments : AtOnce disagreeBytes 2 nothingHeard table2
+  pub disagreeForEver : afterRows (atOnce (pathsOf disagreeBytes)) nothingHeard (table2 ++ drop 1 table2)
+      ≡ afterRows (atOnce (pathsOf disagreeBytes)) nothingHeard table2
   pub disagreeByTwo : OneByOne disagreeBytes 2 nothingHeard disagreeTwoFirst
   pub disagreeByOne : OneByOne disagreeBytes 2 nothingHeard disagreeOneFirst
   pub disagreeEndsFirst : Stores disagreeBytes disagreeFirst (afterRows (oneByOne (pathsOf disagreeBytes)) nothingHeard disagreeTwoFirst)
@@ -140,10 +143,12 @@ pub record Followed : Type 0 where
   pub badGadgetTurns : OneByOne badGadgetBytes 3 nothingHeard badGadgetRounds
   pub badGadgetAgain : afterRows (oneByOne (pathsOf badGadgetBytes)) nothingHeard badGadgetRounds
       ≡ afterRows (oneByOne (pathsOf badGadgetBytes)) nothingHeard (take 1 badGadgetRounds)
-  -- Table 4, all pairs of a row at one moment: row 9 selects what row 1 does
+  -- Table 4, all pairs of a row at one moment: row 9 selects what row 1 does, and rows 2 to 9 can go on for ever
   pub edgeMoments : AtOnce bleedinEdgeBytes 4 nothingHeard table4
   pub edgeAgain : selectedIn (pathsOf bleedinEdgeBytes) 4 (afterRows (atOnce (pathsOf bleedinEdgeBytes)) nothingHeard table4)
       ≡ selectedIn (pathsOf bleedinEdgeBytes) 4 (afterRows (atOnce (pathsOf bleedinEdgeBytes)) nothingHeard (take 1 table4))
+  pub edgeRowNine : afterRows (atOnce (pathsOf bleedinEdgeBytes)) nothingHeard table4 ≡ rowNine
+  pub edgeForEver : afterRows (atOnce (pathsOf bleedinEdgeBytes)) rowNine (drop 1 table4) ≡ rowNine
   -- one by one: rows 1 and 2 from zeros, then row 3 in neither order, and rows 4 to 9 from row 3's state
   pub edgeBegin : OneByOne bleedinEdgeBytes 4 nothingHeard table4Begin
   pub edgeByFour : OneByOne bleedinEdgeBytes 4 nothingHeard (table4Begin ++ edgeFourFirst ∷ [])
@@ -164,10 +169,11 @@ unfolding outside anyBelow thoseBelow anyIn firstIn elem same tabulate foldLeft 
     disagree badGadget bleedinEdge diSafeGree disagreeBytes badGadgetBytes bleedinEdgeBytes diSafeGreeBytes
     assigned routersPaths disagreeFirst disagreeSecond bleedinStable diSafeGreeStable table2 table4Begin table4Moment table4End table4
     disagreeTwoFirst disagreeOneFirst badGadgetRound badGadgetRounds edgeFourFirst edgeTwoFirst bleedinRound diSafeGreeRows
-    atOnce oneByOne afterRows selectedIn selectedAfter nothingHeard rowThree
+    atOnce oneByOne afterRows selectedIn selectedAfter nothingHeard directHeard rowThree rowNine
 followed =
     record {
       disagreeMoments = refl;
+      disagreeForEver = refl;
       disagreeByTwo = refl;
       disagreeByOne = refl;
       disagreeEndsFirst = record { long = refl; same = refl };
@@ -176,6 +182,8 @@ followed =
       badGadgetAgain = refl;
       edgeMoments = refl;
       edgeAgain = refl;
+      edgeRowNine = refl;
+      edgeForEver = refl;
       edgeBegin = refl;
       edgeByFour = refl;
       edgeByTwo = refl;

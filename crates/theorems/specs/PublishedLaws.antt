@@ -10,15 +10,14 @@ use mathlib.Core.Option.{Option, none}
 use native.Mathlib.Omega.{arith}
 use lib.ListN.{getD, length}
 use lib.Dec.{eqb, ltb}
-use borrow.Author.Tests.{eqb-true, ltb-false, lt-ltb, not-true, not-false}
+use borrow.Author.Tests.{eqb-true, lt-ltb, not-true, not-false}
 use Rattle.lists.specs.Search.{anyBelow, anyIn, firstIn, same}
 use Rattle.lists.specs.SearchLaws.{none-below, all-fail}
 use Rattle.lists.specs.ListLaws.{same-eq, same-refl, none-at, some-at, first-in-none}
-use Rattle.lists.specs.Fill.{tabulate}
 use Rattle.lists.specs.FillLaws.{tabulate-none, tabulate-suc, tabulate-at, is-tabulate}
 use Rattle.lists.specs.Fold.{foldLeft}
 use Rattle.lists.specs.NumberLaws.{told-apart, told-first, told-second}
-use Rattle.lists.specs.Tests.{by-test, by-equal, by-less, by-option, true≢, and-parts, both}
+use Rattle.lists.specs.Tests.{by-equal, by-less, by-option, true≢, and-parts, both}
 use Rattle.rules.specs.Table.{Path, nextHop, pathsOf, present}
 use Rattle.rules.specs.Stable.{Stable, extends, bestGiven}
 use Rattle.rules.specs.Machine.{Pair, offsetOf, byteFor, choice, step}

@@ -1,6 +1,5 @@
 -- `published::states::changes_at` meets its contract: what the step leaves is compared with what was there.
 -- Assumes nothing.
-use native.Mathlib.Omega.{arith}
 use borrow.Author.Needs.{needs}
 use Rattle.published.specs.StateLaws.{change-told}
 use Rattle.published.proofs.states.changes_at.Statement.{statement}

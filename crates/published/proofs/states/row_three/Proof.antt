@@ -2,7 +2,7 @@
 -- Assumes nothing.
 use mathlib.Core.Path.{refl}
 use borrow.Author.Needs.{needs}
-use Rattle.theorems.specs.Published.{nothingHeard, rowThree}
+use Rattle.theorems.specs.Published.{nothingHeard, directHeard, rowThree}
 use Rattle.published.proofs.states.row_three.Statement.{statement}
 use Rattle.published.proofs.states.row_three.Tie as tie
 
@@ -25,7 +25,7 @@ array-write-heard-6 : tie.Need-array-write-heard-6
 array-write-heard-6 c = search needs
 
 returns : tie.Need-returns
-unfolding nothingHeard rowThree
+unfolding nothingHeard directHeard rowThree
 returns c = refl
 
 pub row-three-spec : {M : Type 1} → statement M
