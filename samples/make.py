@@ -48,6 +48,19 @@ LIMITS = {
     "rank-17": "1: " + " | ".join(f"1 {v} 0" for v in range(2, 18)) + " | 1 0",
 }
 
+# Published examples of paper 001; its DISAGREE and DI-SAFE-GREE are tables 3 and 5 above, `disagree` and `shortcut`.
+PUBLISHED = {
+    "bad-gadget": """
+        1: 1 3 0 | 1 0
+        2: 2 1 0 | 2 0
+        3: 3 2 0 | 3 0""",
+    "bleedin-edge": """
+        1: 1 2 4 0 | 1 0
+        2: 2 4 3 0 | 2 4 0 | 2 1 0 | 2 3 0
+        3: 3 2 1 0 | 3 0
+        4: 4 3 0 | 4 2 3 0 | 4 0""",
+}
+
 # Pairs of listener and speaker, under the name of the table and one of their own: cases 8 and 9 of the rules page, a
 # ring that never comes to rest, and one that activates a pair which does not listen.
 SCHEDULES = {
@@ -55,6 +68,27 @@ SCHEDULES = {
     "chain.case9": [(2, 0), (3, 2), (1, 0), (2, 1), (3, 2)],
     "three-ring.around": 10 * [(1, 0), (2, 0), (3, 0), (1, 2), (2, 3), (3, 1)],
     "chain.stray": [(1, 0), (2, 1), (1, 2), (0, 1)],
+}
+
+# Rows of paper 001, pair by pair: rows 1 and 2 of Table 2 with either pair of row 2 first, rounds, all rows of Table 4,
+# and the order that section 4 tells of DI-SAFE-GREE.
+PUBLISHED_SCHEDULES = {
+    "disagree.two-first": [(1, 0), (2, 0), (2, 1), (1, 2)],
+    "disagree.one-first": [(1, 0), (2, 0), (1, 2), (2, 1)],
+    "bad-gadget.rounds": 3 * [(1, 0), (2, 0), (3, 0), (1, 3), (2, 1), (3, 2)],
+    "bleedin-edge.table4": [
+        *[(1, 0), (3, 0), (4, 0)],
+        *[(2, 3)],
+        *[(4, 2), (2, 4)],
+        *[(2, 1), (1, 2)],
+        *[(2, 4)],
+        *[(3, 2)],
+        *[(4, 3)],
+        *[(2, 1), (2, 3), (2, 4)],
+        *[(1, 2), (3, 2), (4, 2)],
+    ],
+    "bleedin-edge.round": [(1, 0), (3, 0), (4, 0), (4, 3), (2, 4), (1, 2), (2, 1), (2, 3), (3, 2), (4, 2)],
+    "shortcut.section4": [(1, 0), (2, 0), (3, 0), (3, 2), (2, 1), (3, 2), (2, 3), (3, 2)],
 }
 
 
@@ -96,12 +130,12 @@ def downwards():
 
 def samples():
     """Every sample's file name with its bytes."""
-    files = {f"{name}.table": table(text) for name, text in (SMALL | LIMITS).items()}
+    files = {f"{name}.table": table(text) for name, text in (SMALL | LIMITS | PUBLISHED).items()}
     files["deep-63.table"] = b"".join(block(deep(owner)) for owner in range(1, 64))
     files["full-1008.table"] = b"".join(block(full(owner)) for owner in range(1, 64))
     files["too-long-16144.table"] = files["full-1008.table"] + record(17, [63, 1, 2, 0])
     files["ragged-17.table"] = files["direct.table"] + b"\x00"
-    for name, pairs in (SCHEDULES | {"deep-63.downwards": downwards()}).items():
+    for name, pairs in (SCHEDULES | PUBLISHED_SCHEDULES | {"deep-63.downwards": downwards()}).items():
         files[f"{name}.schedule"] = bytes(number for pair in pairs for number in pair)
     return files
 

@@ -5,7 +5,7 @@ use mathlib.Core.List.{List, [], _∷_}
 use mathlib.Core.Option.{Option, none, some}
 use Prim.Native.Nat.{ℕ, zero, suc, _+_, _<_, _≤_, min}
 use native.Mathlib.Omega.{arith}
-use lib.ListN.{length, getD, take, replicate, length-map, length-replicate}
+use lib.ListN.{length, getD, take, replicate, length-map}
 use lib.IntN.{ℤ, pos}
 use Rattle.lists.specs.FillLaws.{tabulate-at}
 use Rattle.lists.specs.RangeLaws.{map-at}
@@ -22,7 +22,8 @@ use Rattle.rules.specs.Blocks.{few-records, no-path}
 use Rattle.rules.specs.Sanity.{slot-holds}
 use Rattle.rules.specs.ShapeLaws.{shaped}
 use Rattle.rules.specs.MachineLaws.{speaks-other, rank-tells}
-use Rattle.rules.specs.RunTextLaws.{vertices-ext, accepted-table, ran-text-fits}
+use Rattle.rules.specs.RunTextLaws.{vertices-ext, ran-text-fits}
+use Rattle.rules.specs.AnswerLaws.{run-admitted}
 use Rattle.answer.specs.declared.RunAnswer.{RunAnswer}
 use Rattle.answer.specs.Moves.{runRefusalIn, runNumbersIn}
 use Rattle.letters.specs.Lay.{Laid, overlaid}
@@ -75,7 +76,7 @@ pub record Ran (t heard s : List ℕ) (sums : List ℤ) (a : RunAnswer) (heardAf
   pub added : sumsAfter ≡ sumsAfterRun t heard s sums
   pub choices : chosen ≡ choicesIn t heardAfter
 
-module _ (t heard s : List ℕ) (sums : List ℤ) (long : length heard ≡ 4096) (longSums : length sums ≡ 64) where
+module _ (t heard s : List ℕ) (sums : List ℤ) where
   abbrev y : Tally
   y = run (pathsOf t) heard (pairsIn s)
 
@@ -90,14 +91,14 @@ module _ (t heard s : List ℕ) (sums : List ℤ) (long : length heard ≡ 4096)
   accepted-new o new old e = rw e
 
   -- what the answer prints is the text of the run
-  text-is : (a : RunAnswer) (heardAfter : List ℕ) (sumsAfter : List ℤ) (chosen : List ℕ)
+  pub text-is : (a : RunAnswer) (heardAfter : List ℕ) (sumsAfter : List ℤ) (chosen : List ℕ)
       → Ran t heard s sums a heardAfter sumsAfter chosen
       → runTextOf (runRefusalIn (a .verdict)) (runNumbersIn a) (shownLines t chosen sumsAfter 63)
       ≡ runText t heard s sums
   unfolding runText runNumbers heardAfterRun sumsAfterRun choicesIn
   text-is a heardAfter sumsAfter chosen ran =
       by-option (runRefusal t heard s sums)
-      (λ e. let ok = accepted-table t heard s sums long longSums e in
+      (λ e. let ok = run-admitted t heard s sums e .accepted in
       let chose = ran .choices ∙ accepted-new (refusal t) _ _ ok ∙ ap (choiceBytes (pathsOf t)) (ran .state ∙ accepted-new _ _ _ e) in
       rw (ran .refused, ran .numbers ∙ accepted-new _ _ _ e, ran .added ∙ accepted-new _ _ _ e, chose)
       (ap (runTextOf (runRefusal t heard s sums) _) (lines-ran t ok y)))
@@ -114,8 +115,7 @@ pub printed-run : (t s before after : List ℕ) (n : ℕ) (a : RunAnswer) (heard
     → Printed t s before after n
 unfolding ranText
 printed-run t s before after n a heardAfter sumsAfter chosen ran l =
-    let text = text-is t (replicate 4096 0) s (replicate 64 (pos 0)) (length-replicate {A = ℕ} 4096 0) (length-replicate {A = ℤ} 64 (pos 0)) in
-    let m = laid-as l (text a heardAfter sumsAfter chosen ran) in
+    let m = laid-as l (text-is t (replicate 4096 0) s (replicate 64 (pos 0)) a heardAfter sumsAfter chosen ran) in
     (m .stands, omega (arith, m .reaches))
 
 -- any two results and texts that it allows are equal

@@ -1,0 +1,2 @@
+-- The published examples.
+pub mod StateLaws

@@ -1,0 +1,34 @@
+-- `published_program::show_check` meets its contract: the text's length is within its buffer.
+-- Assumes nothing.
+use mathlib.Core.Path.{sym}
+use native.Mathlib.Omega.{arith}
+use borrow.Author.Needs.{needs}
+use lib.Seq.{length-take-le}
+use Rattle.published_program.proofs.show_check.Statement.{statement}
+use Rattle.published_program.proofs.show_check.Tie as tie
+
+slice-aggregate-check-text : tie.Need-slice-aggregate-check-text
+slice-aggregate-check-text c = search needs
+
+check-text-requires : tie.Need-check-text-requires
+check-text-requires c κs = search needs
+
+array-share-prefix-text : tie.Need-array-share-prefix-text
+array-share-prefix-text c = search needs
+
+slice-aggregate-say : tie.Need-slice-aggregate-say
+slice-aggregate-say c =
+    let r = c .before .before .check-text in
+    sym (length-take-le (r .result) (r .last .1 .0) (omega (arith, r .ensures .1, r .kept .1 .0)))
+
+say-requires : tie.Need-say-requires
+say-requires c κs = search needs
+
+returns : tie.Need-returns
+returns c = search needs
+
+pub show-check-spec : {M : Type 1} → statement M
+show-check-spec =
+    tie.close
+    (tie.spec slice-aggregate-check-text check-text-requires array-share-prefix-text slice-aggregate-say say-requires
+    returns)
