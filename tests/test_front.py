@@ -34,7 +34,7 @@ class Front(unittest.TestCase):
         status, out, said = front()
         self.assertEqual((status, said), (0, ""))
         self.assertTrue(out.startswith("usage: ./reefsplice COMMAND\n"))
-        commands = ["check < TABLE", "run TABLE SCHEDULE", "demo", "lib"]
+        commands = ["check < TABLE", "run TABLE SCHEDULE", "published", "demo", "lib"]
         for command in (*commands, "second-check < TABLE", "second-run TABLE SCHEDULE", "help"):
             self.assertIn(f"\n  {command} ", out)
         self.assertEqual(front("help"), (0, out, ""))
