@@ -30,17 +30,17 @@ def build(words):
 
 
 @functools.cache
-def build_entries():
-    build(["rt", "staticlib", "reefsplice"])
-
-
-@functools.cache
 def build_libraries():
     """Once for all tests of a run, since rt proves the crate again each time."""
     test_samples.setUpModule()
     build_entries()
     build(["rt", "staticlib", "probe"])
     BUILT.mkdir(parents=True, exist_ok=True)
+
+
+@functools.cache
+def build_entries():
+    build(["rt", "staticlib", "reefsplice"])
 
 
 def build_driver(place, *sources, flags=()):

@@ -1,4 +1,4 @@
-//! The proved code and the second program on the same bytes in one process.
+//! The C entries of the proved code and the second program on the same bytes in one process.
 //!
 //! `bench time BATCHES WORK..` times both in turn and prints a line: the table's records, the numbers of the answer,
 //! the median nanoseconds of the proved reader alone and of one call by each, and the median of second/proved over the
@@ -6,7 +6,7 @@
 //! `bench repeat reading|proved|second COUNT WORK..` makes so many calls and prints nothing, for counting instructions.
 //! WORK is `check TABLE`, `run TABLE SCHEDULE`, or `step TABLE SCHEDULE`: its last pair, after those before it.
 
-mod probe;
+mod entries;
 mod work;
 
 use std::env;
