@@ -37,8 +37,8 @@ for mix in (STEP_MIX, RUN_MIX):
     mix |= {f"refused {number}": 20 for number in range(2, 12)}
 MIX = {"step": STEP_MIX, "run": RUN_MIX}
 
-# Lengths of the buffer of numbers, none of them right: bytes or words of what is answered, one off, and other units.
-LENGTHS = {"step": [0, 4, 31, 33, 256 + 32], "run": [0, 8, 20, 31, 33, 128]}
+# Lengths of the buffer of numbers, none of them right: the answer's own bytes or all words, one off, and 256 more.
+LENGTHS = {"step": [0, 4, 31, 33], "run": [0, 8, 20, 31, 33, 256 + 32]}
 TEXT_LENGTHS = [0, 1, 8, 41, 42, 100, 1000, 8191, 20000]
 
 
