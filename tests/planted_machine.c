@@ -111,12 +111,19 @@ static int is_step_planted(void)
     return 0;
 }
 
+/* All that steps add up to. */
+static void clear_counts(struct run r)
+{
+    memset(r.sums, 0, SUMS_BYTES);
+    put_word(r.numbers, UPS, 0);
+    put_word(r.numbers, DOWNS, 0);
+    put_word(r.numbers, LAST, 0);
+}
+
 /* An accepted schedule by wrong steps; the rounds stay. */
 static void run_by_steps(struct run r)
 {
-    memset(r.sums, 0, SUMS_BYTES);
-    for (size_t word = UPS; word <= LAST; word++)
-        put_word(r.numbers, word, 0);
+    clear_counts(r);
     for (size_t at = 0; at < r.schedule_len; at += 2) {
         uint8_t v = r.schedule[at], u = r.schedule[at + 1], step[NUMBERS_BYTES];
         wrong_step(r.table, r.table_len, r.heard, HEARD_BYTES, v, u, step, sizeof step);
