@@ -1,8 +1,9 @@
-/* Bytes of stack that one call of the proved code takes: stack check TABLE, stack step TABLE SCHEDULE (its last pair,
+/* Bytes of stack that one call of a C entry takes: stack check TABLE, stack step TABLE SCHEDULE (its last pair,
    from zeros) or stack run TABLE SCHEDULE. The call runs on a stack of its own that was painted before; the lowest byte
    that is no longer paint is as far down as the call wrote. A function that does nothing is called the same way, and
    what that takes is left out. */
 #define _XOPEN_SOURCE 700
+#include "reefsplice.h"
 #include <stdint.h>
 #include <stdio.h>
 #include <stdlib.h>
@@ -11,23 +12,14 @@
 
 enum { STACK_BYTES = 1 << 20, MOST_BYTES = 1 << 16 };
 
-uint64_t probe_check(const uint8_t *table, size_t length, uint8_t *rows, size_t rows_length, uint8_t *ring,
-                     size_t ring_length);
-uint64_t probe_step(const uint8_t *table, size_t length, uint8_t *heard, size_t heard_length, uint8_t listener,
-                    uint8_t speaker, int32_t *movement, size_t movement_length);
-uint64_t probe_run(const uint8_t *table, size_t length, uint8_t *heard, size_t heard_length, const uint8_t *schedule,
-                   size_t schedule_length, int32_t *sums, size_t sums_length, uint32_t *numbers,
-                   size_t numbers_length);
-
 struct input {
     uint8_t bytes[MOST_BYTES];
     size_t length;
 };
 
 static struct input table, schedule;
-static uint8_t rows[1024], ring[64], heard[4096];
-static int32_t movement, sums[64];
-static uint32_t numbers[5];
+static uint8_t rows[REEFSPLICE_ROWS_BYTES], ring[REEFSPLICE_RING_BYTES], heard[REEFSPLICE_HEARD_BYTES];
+static uint8_t sums[REEFSPLICE_SUMS_BYTES], numbers[REEFSPLICE_NUMBERS_BYTES];
 static void (*volatile called)(void);
 static ucontext_t here, there;
 
@@ -37,18 +29,19 @@ static void nothing(void)
 
 static void check(void)
 {
-    probe_check(table.bytes, table.length, rows, sizeof rows, ring, sizeof ring);
+    reefsplice_check(table.bytes, table.length, rows, sizeof rows, ring, sizeof ring, numbers, sizeof numbers);
 }
 
 static void step(void)
 {
     const uint8_t *pair = schedule.bytes + schedule.length - 2;
-    probe_step(table.bytes, table.length, heard, sizeof heard, pair[0], pair[1], &movement, 1);
+    reefsplice_step(table.bytes, table.length, heard, sizeof heard, pair[0], pair[1], numbers, sizeof numbers);
 }
 
 static void run(void)
 {
-    probe_run(table.bytes, table.length, heard, sizeof heard, schedule.bytes, schedule.length, sums, 64, numbers, 5);
+    reefsplice_run(table.bytes, table.length, heard, sizeof heard, schedule.bytes, schedule.length, sums, sizeof sums,
+                   numbers, sizeof numbers);
 }
 
 static void call(void)

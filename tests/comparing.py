@@ -1,9 +1,9 @@
 """The proved code and the second program on the same cases: how both are built and run, and how the first difference
 between their lines is named.
 
-Cases come from a seed, which REEFSPLICE_SEED sets. The proved code is the crate `probe`, linked into a small C
-program that takes a case per line and answers with a line, as the second program does. What a case lends are its
-fields of bytes: a table, or what else its call takes beside one.
+Cases come from a seed, which REEFSPLICE_SEED sets. The proved code is that of the C entries, and of the crate `probe`
+for what no entry gives, linked into a small C program that takes a case per line and answers with a line, as the
+second program does. What a case lends are its fields of bytes: a table, or what else its call takes beside one.
 """
 
 import functools
@@ -19,6 +19,8 @@ BUILT = ROOT / ".build" / "probe"
 SEED = os.environ.get("REEFSPLICE_SEED", "1")
 ENDED = "ended with status 0"
 LONGEST_RUN = 20  # seconds for one run over the cases of a kind, which takes less than one
+NUMBER_BYTES, NUMBERS_BYTES = 4, 32
+BUFFER_LENGTH = "1"  # the code of a refusal for the length of a lent buffer
 
 
 def build(words):
@@ -28,24 +30,26 @@ def build(words):
 
 
 @functools.cache
-def build_entries():
-    build(["rt", "staticlib", "reefsplice"])
-
-
-@functools.cache
 def build_libraries():
     """Once for all tests of a run, since rt proves the crate again each time."""
     test_samples.setUpModule()
+    build_entries()
     build(["rt", "staticlib", "probe"])
     BUILT.mkdir(parents=True, exist_ok=True)
+
+
+@functools.cache
+def build_entries():
+    build(["rt", "staticlib", "reefsplice"])
 
 
 def build_driver(place, *sources, flags=()):
     """A C program over the proved code."""
     build_libraries()
     files = [f"tests/{source}" for source in (*sources, "lines.c", "lent.c")]
+    files += [f"target/staticlib/lib{crate}.a" for crate in ("reefsplice", "probe")]
     warnings = ["-std=c11", "-O2", "-Wall", "-Wextra", "-Werror"]
-    build(["gcc", *warnings, *flags, *files, "target/staticlib/libprobe.a", "-o", place])
+    build(["gcc", *warnings, "-Iinclude", *flags, *files, "-o", place])
 
 
 def build_planted(place, driver, planted, wrapped):
@@ -103,6 +107,35 @@ def agreed_texts(kind, words, pairs, length):
         found, expected = line.split()[-2:], [answer["text"][: 2 * length] or "-", "kept"]
         if found != expected:
             blame(kind, cases, number, f"{found} and not {expected}")
+
+
+# ---- buffers of numbers
+
+
+def marks(length):
+    """A buffer that a driver lends marked, in hex, as it is before its first call."""
+    return bytes((165 + 7 * at) % 256 for at in range(length)).hex() or "-"
+
+
+def words_of(lent):
+    """The numbers in lent bytes, four bytes each, low byte first."""
+    chunks = [lent[at : at + NUMBER_BYTES] for at in range(0, len(lent), NUMBER_BYTES)]
+    return [str(int.from_bytes(chunk, "little", signed=True)) for chunk in chunks]
+
+
+def words_in(field):
+    return words_of(bytes.fromhex(field.strip("-")))
+
+
+def given(code, field, count):
+    """The first numbers of a buffer; those of a refusal are 0, whatever the buffer holds."""
+    return words_in(field)[:count] if code == "0" else ["0"] * count
+
+
+def buffer_of(code, numbers, length):
+    """The buffer of numbers after a call, as the rules page has it: the rest is 0, and a refusal leaves its marks."""
+    laid = b"".join(int(number).to_bytes(NUMBER_BYTES, "little", signed=True) for number in numbers)
+    return laid.ljust(NUMBERS_BYTES, b"\0").hex() if code == "0" else marks(length)
 
 
 # ---- the first difference

@@ -24,4 +24,15 @@ uint64_t plant_text(uint64_t written, uint8_t *text, size_t text_length);
 /* Whether a buffer holds the driver's marks as they are in the call in which they are turned. */
 int is_turned(const void *marked, size_t length);
 
+/* Word `at` of a buffer of numbers or sums: four bytes, low byte first. */
+int32_t word_at(const uint8_t *bytes, size_t at);
+void put_word(uint8_t *bytes, size_t at, int32_t word);
+void add_word(uint8_t *bytes, size_t at, int32_t more);
+
+/* The faults of such words: NAME-turned, high byte first, and NAME-one-byte, which only shows in negative ones. */
+void plant_words(const char *name, uint8_t *bytes, size_t count);
+
+/* The faults of an accepted call's buffer of numbers, of which an answer takes the first few. */
+void plant_numbers(uint8_t *numbers, size_t taken);
+
 #endif

@@ -1,16 +1,10 @@
 /* Answers each table of standard input with the line of `second batch`, by calling the proved code of libprobe.a. */
 #include "lines.h"
+#include "probe.h"
 #include <inttypes.h>
 #include <stdio.h>
 
 enum { VERTICES = 64, RANKS = 16, PAIRS = VERTICES * VERTICES };
-
-/* Rattle passes a slice as a pointer, then its length. */
-uint64_t probe_read(const uint8_t *table, size_t length);
-uint64_t probe_longest(const uint8_t *table, size_t length);
-uint64_t probe_present(const uint8_t *table, size_t length, uint64_t v);
-uint64_t probe_listens(const uint8_t *table, size_t length, uint64_t pair);
-uint64_t probe_slot(const uint8_t *table, size_t length, uint64_t v, uint64_t k);
 
 static void print_accepted(const uint8_t *table, size_t length)
 {

@@ -13,7 +13,7 @@ import reader_cases as reader
 from check_cases import each
 from reader_cases import MOST_HOPS, RECORD_BYTES, VERTICES
 
-HEARD_BYTES, SUMS, NUMBER_BYTES, MOST_PAIRS = VERTICES * VERTICES, VERTICES, 4, 16384
+HEARD_BYTES, SUMS, SUMS_BYTES, MOST_PAIRS = VERTICES * VERTICES, VERTICES, 4 * VERTICES, 16384
 ZEROS = bytes(HEARD_BYTES)
 BUFFER_LENGTH, BAD_STATE, BAD_LENGTH, BAD_PAIR = 1, 12, 13, 14
 
@@ -29,7 +29,7 @@ class Run(NamedTuple):
     table: bytes
     heard: bytes
     schedule: bytes
-    sums: bytes  # as they are lent: four bytes each, low byte first
+    sums: bytes
     says: dict
 
 
@@ -40,9 +40,9 @@ def says(number, place=0):
 ACCEPTED = says(0)
 
 
-def lent_sums(rng, count=SUMS):
-    """Any numbers, since what was there must not matter."""
-    return rng.randbytes(NUMBER_BYTES * count)
+def lent_sums(rng, length=SUMS_BYTES):
+    """Any bytes, since what was there must not matter."""
+    return rng.randbytes(length)
 
 
 # ---- what an accepted table says
@@ -136,6 +136,8 @@ def with_places(rng, kind):
 
 
 OTHER_LENGTHS = [0, 1, 64, HEARD_BYTES - 1, HEARD_BYTES + 1, 2 * HEARD_BYTES, HEARD_BYTES + 65536]
+# As many bytes as sums, a sum or a byte less or more, and what a count in other units would take for right.
+OTHER_SUMS = [0, SUMS, *(SUMS_BYTES + more for more in (-4, -1, 1, 4, 65536)), 4 * SUMS_BYTES]
 
 
 def of_length(state, length):
@@ -301,8 +303,8 @@ def run_of_other_lengths(rng):
     case = run(rng)
     other = rng.choice([["heard"], ["sums"], ["heard", "sums"]])
     heard = of_length(case.heard, rng.choice(OTHER_LENGTHS)) if "heard" in other else case.heard
-    count = rng.choice([0, 1, SUMS - 1, SUMS + 1, 4 * SUMS, SUMS + 256]) if "sums" in other else SUMS
-    return case._replace(heard=heard, sums=lent_sums(rng, count), says=says(BUFFER_LENGTH))
+    length = rng.choice(OTHER_SUMS) if "sums" in other else SUMS_BYTES
+    return case._replace(heard=heard, sums=lent_sums(rng, length), says=says(BUFFER_LENGTH))
 
 
 def bad_length(rng, schedule):
@@ -356,7 +358,7 @@ def with_faults(rng, bad_table, table_says):
         "length": lambda case: case._replace(schedule=bad_length(rng, case.schedule), says=says(BAD_LENGTH)),
         "state": lambda case: case._replace(heard=heard, says=says(BAD_STATE, state_at)),
         "table": lambda case: case._replace(table=bad_table, says=table_says),
-        "sums": lambda case: case._replace(sums=lent_sums(rng, rng.choice([0, 63, 65])), says=says(BUFFER_LENGTH)),
+        "sums": lambda case: case._replace(sums=lent_sums(rng, rng.choice(OTHER_SUMS)), says=says(BUFFER_LENGTH)),
         "heard": lambda case: case._replace(heard=case.heard + bytes(1), says=says(BUFFER_LENGTH)),
     }
     chosen = rng.sample(list(faults), rng.randint(2, len(faults)))

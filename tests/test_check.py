@@ -1,8 +1,9 @@
 """The proved check against the second program: the same tables to both, and all that they give back compared.
 
-The return value, rows and ring are those of `probe_check`, and the text is that of `probe_text`; from the text come
-settled, stuck, stages and longest, and from the ring its length. What a call may not write is looked at too: see
-check_driver.c. Where a table is made so that its answer is known, both are held to that as well.
+The return value, numbers, rows and ring are those of `reefsplice_check`, and the text is that of `probe_text`. The five
+numbers are compared as they stand in the buffer of numbers, and once more as ring and text tell them. What a call may
+not write is looked at too: see check_driver.c. Where a table is made so that its answer is known, both are held to that
+as well.
 """
 
 import functools
@@ -17,17 +18,14 @@ import check_cases
 import comparing
 import reader_cases
 import test_samples
-from comparing import SECOND, SEED
+from comparing import NUMBERS_BYTES, SECOND, SEED
 
 DRIVER = comparing.BUILT / "check"
 PLANTED = comparing.BUILT / "check-planted"
-FIELDS = {
-    "code": comparing.characters,
-    "ring length": comparing.characters,
-    "settled": comparing.characters,
-    "stuck": comparing.characters,
-    "stages": comparing.characters,
-    "longest": comparing.characters,
+NUMBERS = ["ring length", "settled", "stuck", "stages", "longest"]
+FIELDS = dict.fromkeys(["code", *NUMBERS], comparing.characters) | {
+    "numbers": comparing.hex_bytes,
+    "numbers by ring and text": comparing.numbers,
     "rows": comparing.hex_bytes,
     "ring": comparing.hex_bytes,
     "text": comparing.hex_bytes,
@@ -42,9 +40,12 @@ MIX |= {f"refused {number}": 40 for number in range(2, 12)}
 MIX |= {f"refused {number} of several faults": 15 for number in range(2, 12)}
 RING_LENGTHS = 30
 
-# Lengths of rows and ring, none of them right.
-LENGTHS = [(1023, 64), (1025, 64), (1024, 63), (1024, 65), (0, 64), (1024, 0), (0, 0), (64, 1024), (1023, 65)]
-LENGTHS += [(2048, 64), (1024, 128), (1040, 64), (65536 + 1024, 64), (1024, 256 + 64)]
+# The lengths of rows, ring and numbers, and others, of which not all are right.
+LENT = (1024, 64, NUMBERS_BYTES)
+LENGTHS = [(rows, 64, 32) for rows in (0, 1023, 1025, 1040, 2048, 65536 + 1024)]
+LENGTHS += [(1024, ring, 32) for ring in (0, 63, 65, 128, 256 + 64)]
+LENGTHS += [(1024, 64, numbers) for numbers in (0, 5, 20, 31, 33, 64, 256 + 32)]
+LENGTHS += [(0, 0, 0), (64, 1024, 32), (1023, 65, 32), (1023, 64, 33)]
 
 # Lengths of the buffer for the text: a shorter one takes as much of it as fits, and a longer one keeps its rest.
 TEXT_LENGTHS = [0, 1, 8, 50, 51, 100, 1000, 16383, 20000]
@@ -53,22 +54,38 @@ TEXT_LENGTHS = [0, 1, 8, 50, 51, 100, 1000, 16383, 20000]
 PLANTS = {
     "number": "code is 1 .* and 0 for",
     "place": "code is 256 .* and 0 for",
+    "longer-ring": "ring length is 3 .* and 2 for",
+    "invented-settled": "settled is 2 .* and 1 for",
+    "invented-stuck": "stuck is 3 .* and 2 for",
+    "invented-stages": "stages is 2 .* and 1 for",
+    "invented-longest": "longest is 3 .* and 2 for",
+    "numbers-byte": "ring length is 3 .* and 2 for",
+    "numbers-high-byte": "ring length is 16777218 .* and 2 for",
+    "numbers-turned": "ring length is 33554432 .* and 2 for",
+    "numbers-rest-first": "numbers at 20 is 01 .* and 00 for",
+    "numbers-rest-last": "numbers at 31 is 01 .* and 00 for",
     "rows-byte": "rows at 1023 is fe .* and ff for",
     "ring-byte": "ring at 0 is",
+    "ring-end": "numbers by ring and text is 3,1,2,1,2 .* and 2,1,2,1,2 for",
     "text-byte": "text at [0-9]+ is",
     "text-short": "text at [0-9]+ is nothing .* and 0a for",
-    "text-long": "settled is nothing .* and 1 for",
+    "text-count": "numbers by ring and text is 2,0,2,1,2 .* and 2,1,2,1,2 for",
+    "text-long": "numbers by ring and text at 1 is nothing .* and 1 for",
     "rows-before": "around is rows-before",
     "rows-after": "around is rows-after",
     "ring-before": "around is ring-before",
     "ring-after": "around is ring-after",
+    "numbers-before": "around is numbers-before",
+    "numbers-after": "around is numbers-after",
     "text-before": "around is text-before",
     "text-rest": "around is text-rest",
     "text-after": "around is text-after",
     "table-byte": "check-planted ended with status 3",
     "what-was-there": "around is answer-by-what-was-there",
+    "which-numbers-were-there": "around is answer-by-what-was-there",
     "clears-rows": "rows at 0 is 00 .* and a5 for",
     "clears-ring": "ring at 0 is 00 .* and a5 for",
+    "clears-numbers": "numbers at 0 is 00 .* and a5 for",
     "aborts": "check-planted ended with status -6",
 }
 
@@ -76,29 +93,39 @@ PLANTS = {
 def setUpModule():
     print(f"test_check: seed {SEED}", flush=True)
     comparing.build_driver(DRIVER, "check_driver.c")
-    comparing.build_planted(PLANTED, "check_driver.c", "planted.c", ["probe_check", "probe_text"])
+    comparing.build_planted(PLANTED, "check_driver.c", "planted.c", ["reefsplice_check", "probe_text"])
 
 
-def numbers_in(ring, text):
-    """The ring's length, and the four counts of the text's first line."""
-    length = len(bytes.fromhex(ring).partition(b"\xff")[0])
+def numbers_by(ring, text):
+    """The ring's length by its bytes, and the four counts by the text's first line."""
+    length = len(bytes.fromhex(ring.strip("-")).partition(b"\xff")[0])
     words = bytes.fromhex(text.strip("-")).split(b"\n")[0].decode("latin-1").split()
     return [str(length), *words[3::2], *["nothing"] * 4][:5]
 
 
 def proved_words(line):
-    """The words of the proved check's line, with the five numbers, which a refusal has as 0."""
-    code, rows, ring, text, around = line.split()
-    numbers = numbers_in(ring, text) if code == "0" else ["0"] * 5
-    return [code, *numbers, rows, ring, text, around]
+    """The words of the proved check's line, with its numbers, and with what ring and text say of them."""
+    code, numbers, rows, ring, text, around = line.split()
+    told = ",".join(numbers_by(ring, text) if code == "0" else ["0"] * 5)
+    return [code, *comparing.given(code, numbers, len(NUMBERS)), numbers, told, rows, ring, text, around]
 
 
-def compare(kind, cases, driver=DRIVER, lengths=()):
+def second_words(line, rows_bytes, ring_bytes, numbers_bytes):
+    """The second program's words for the same call; it is lent no buffer of numbers and so cannot refuse its length."""
+    code, *numbers, rows, ring, text = line.split()
+    if numbers_bytes != NUMBERS_BYTES:
+        code, numbers = comparing.BUFFER_LENGTH, ["0"] * len(numbers)
+        rows, ring = comparing.marks(rows_bytes), comparing.marks(ring_bytes)
+    laid = comparing.buffer_of(code, numbers, numbers_bytes)
+    return [code, *numbers, laid, ",".join(numbers), rows, ring, text, "kept"]
+
+
+def compare(kind, cases, driver=DRIVER, lengths=LENT):
     """The answer to each case as a dictionary, once both programs agree on all and with what the cases say."""
-    lengths = [str(length) for length in lengths]
-    proved = comparing.answers(kind, [driver, *lengths], cases)
-    second = comparing.answers(kind, [SECOND, "check-batch", *lengths], cases)
-    theirs = [[*line.split(), "kept"] for line in second]
+    words = [str(length) for length in lengths]
+    proved = comparing.answers(kind, [driver, *words], cases)
+    second = comparing.answers(kind, [SECOND, "check-batch", *words[:2]], cases)
+    theirs = [second_words(line, *lengths) for line in second]
     return comparing.agreed(kind, cases, FIELDS, [proved_words(line) for line in proved], theirs)
 
 
@@ -107,7 +134,7 @@ def sample_case(name):
 
 
 def compare_texts(length, pairs, driver=DRIVER):
-    comparing.agreed_texts(f"text in {length} bytes", [driver, "1024", "64", str(length)], pairs, length)
+    comparing.agreed_texts(f"text in {length} bytes", [driver, *map(str, LENT), str(length)], pairs, length)
 
 
 @functools.cache
@@ -165,11 +192,11 @@ class Check(unittest.TestCase):
     def test_other_lengths(self):
         """Refusal 1 comes before any other, and nothing changes."""
         kinds = [kind for kind in check_cases.KINDS if not kind.startswith("damaged_more")]
-        tables = [case.table for kind in kinds for case, _ in compared(kind)[:3]]
+        tables = [case.table for kind in kinds for case, _ in compared(kind)[:2]]
         cases = [check_cases.Case(table, {"code": "1"}) for table in tables]
         for lengths in LENGTHS:
             with self.subTest(lengths=lengths):
-                self.assertEqual(len(compare(f"rows and ring of {lengths}", cases, lengths=lengths)), len(cases))
+                self.assertEqual(len(compare(f"buffers of {lengths}", cases, lengths=lengths)), len(cases))
 
     def test_other_text_lengths(self):
         pairs = [pair for kind in check_cases.KINDS for pair in compared(kind)[:3]]
@@ -203,8 +230,9 @@ class Planted(unittest.TestCase):
             self.planted("stays")
 
     def test_any_length(self):
-        with self.assertRaisesRegex(AssertionError, "code is 0 .* and 1 for"):
-            self.planted("any-length", lengths=(1023, 64))
+        for lengths in ((1023, 64, 32), (1024, 65, 32), (1024, 64, 31)):
+            with self.assertRaisesRegex(AssertionError, "code is 0 .* and 1 for"):
+                self.planted("any-length", lengths=lengths)
 
     def test_other_text_lengths(self):
         pairs = list(zip(self.cases, compare("planted", self.cases)))

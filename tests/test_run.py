@@ -1,8 +1,8 @@
 """The proved step and run against the second program: the same calls to both, and all that they give back compared.
 
-The return value, the movement or the five numbers, every byte of the heard state and every sum are those of
-`probe_step` and `probe_run`, and the text is that of `probe_run_text`, which runs from zeros. What a call may not write
-is looked at too: see lent.h. Where a case is made so that its answer is known, both are held to that as well.
+The return value, every byte of the buffer of numbers and of the heard state, and every sum are those of
+`reefsplice_step` and `reefsplice_run`, and the text is that of `probe_run_text`, which runs from zeros. What a call may
+not write is looked at too: see lent.h. Where a case is made so that its answer is known, both are held to that as well.
 """
 
 import functools
@@ -13,13 +13,15 @@ from collections import Counter
 import comparing
 import run_cases
 import test_samples
-from comparing import SECOND, SEED
+from comparing import NUMBER_BYTES, NUMBERS_BYTES, SECOND, SEED
 from worked_cases import NUMBERS
 
 DRIVER = comparing.BUILT / "machine"
-STEP_FIELDS = {"code": comparing.characters, "movement": comparing.characters, "heard": comparing.hex_bytes}
-RUN_FIELDS = dict.fromkeys(["code", *NUMBERS], comparing.characters)
-RUN_FIELDS |= {"heard": comparing.hex_bytes, "sums": comparing.numbers, "text": comparing.hex_bytes}
+NAMES = {"step": ["movement"], "run": NUMBERS}
+BUFFERS = {"numbers": comparing.hex_bytes, "heard": comparing.hex_bytes}
+STEP_FIELDS = dict.fromkeys(["code", *NAMES["step"]], comparing.characters) | BUFFERS
+RUN_FIELDS = dict.fromkeys(["code", *NAMES["run"]], comparing.characters) | BUFFERS
+RUN_FIELDS |= {"sums": comparing.numbers, "text": comparing.hex_bytes}
 FIELDS = {"step": STEP_FIELDS, "run": RUN_FIELDS}
 for fields in FIELDS.values():
     fields["around"] = comparing.characters
@@ -29,14 +31,14 @@ STEP_MIX = {"cases": 2000, "up": 150, "down": 30, "no movement": 150, "movement 
 STEP_MIX |= {"stored and not moved": 40, "refused 1": 60, "refused 12": 150, "refused 14": 200}
 RUN_MIX = {"cases": 2000, "ups and downs": 250, "no change": 30, "last change before the end": 200}
 RUN_MIX |= {"last change at the end": 20, "no round": 100, "one round": 50, "many rounds": 50, "16384 steps": 20}
-RUN_MIX |= {"sum below 0": 100, "text with none": 300, "text of twelve hops": 15}
+RUN_MIX |= {"half a sum": 50, "sum below 0": 100, "text with none": 300, "text of twelve hops": 15}
 RUN_MIX |= {f"refused {number}": least for number, least in {1: 150, 12: 180, 13: 80, 14: 200}.items()}
 for mix in (STEP_MIX, RUN_MIX):
     mix |= {f"refused {number}": 20 for number in range(2, 12)}
 MIX = {"step": STEP_MIX, "run": RUN_MIX}
 
-# Numbers that fit into a lent buffer: fewer are given as far as there is room, and no more than there are.
-ROOM = {"step": [0, 2, 8], "run": [0, 1, 2, 3, 4, 6, 8]}
+# Lengths of the buffer of numbers, none of them right: the answer's own bytes or all words, one off, and 256 more.
+LENGTHS = {"step": [0, 4, 31, 33], "run": [0, 8, 20, 31, 33, 256 + 32]}
 TEXT_LENGTHS = [0, 1, 8, 41, 42, 100, 1000, 8191, 20000]
 
 
@@ -45,21 +47,46 @@ def setUpModule():
     comparing.build_driver(DRIVER, "machine_driver.c")
 
 
-def compare(which, kind, cases, driver=DRIVER, room=None):
+def sums_word(lent):
+    """Lent sums as the second program prints its own."""
+    return ",".join(comparing.words_of(lent)) or "-"
+
+
+def proved_words(which, line):
+    """The words of the proved code's line, with the numbers that the buffers hold."""
+    code, numbers, heard, *others = line.split()
+    if which == "run":
+        others[0] = sums_word(bytes.fromhex(others[0].strip("-")))
+    return [code, *comparing.given(code, numbers, len(NAMES[which])), numbers, heard, *others]
+
+
+def has_half_a_sum(case):
+    return isinstance(case, run_cases.Run) and len(case.sums) % NUMBER_BYTES != 0
+
+
+def refused_for_length(which, case):
+    """What a call leaves that is refused for the length of a buffer: no number, and all that it was lent as it was."""
+    lent = {"heard": case.heard.hex() or "-"} | ({"sums": sums_word(case.sums)} if which == "run" else {})
+    return dict.fromkeys(NAMES[which], "0") | lent | {"code": comparing.BUFFER_LENGTH}
+
+
+def second_words(which, case, line, length):
+    """The second program's words for the same call; it is lent no buffer of numbers, and only whole sums."""
+    words = dict(zip(["code", *NAMES[which], "heard", "sums", "text"], line.split())) | {"around": "kept"}
+    if length != NUMBERS_BYTES or has_half_a_sum(case):
+        words |= refused_for_length(which, case)
+    words["numbers"] = comparing.buffer_of(words["code"], [words[name] for name in NAMES[which]], length)
+    return [words[name] for name in FIELDS[which]]
+
+
+def compare(which, kind, cases, driver=DRIVER, length=NUMBERS_BYTES):
     """The answer to each case as a dictionary, once both programs agree on all and with what the cases say."""
-    words = [driver, which] if room is None else [driver, which, str(room)]
-    proved = comparing.answers(f"{which} {kind}", words, cases)
-    second = comparing.answers(f"{which} {kind}", [SECOND, f"{which}-batch"], cases)
-    theirs = [[*within(which, line.split(), room), "kept"] for line in second]
-    return comparing.agreed(f"{which} {kind}", cases, FIELDS[which], [line.split() for line in proved], theirs)
-
-
-def within(which, words, room):
-    """The words of an accepted call whose numbers have only so much room."""
-    if room is None or words[0] != "0":
-        return words
-    count = 1 if which == "step" else len(NUMBERS)
-    return [words[0], *words[1 : 1 + min(count, room)], *["-"] * (count - room), *words[1 + count :]]
+    proved = comparing.answers(f"{which} {kind}", [driver, which, str(length)], cases)
+    whole = [case._replace(sums=b"") if has_half_a_sum(case) else case for case in cases]
+    second = comparing.answers(f"{which} {kind}", [SECOND, f"{which}-batch"], whole)
+    ours = [proved_words(which, line) for line in proved]
+    theirs = [second_words(which, case, line, length) for case, line in zip(cases, second)]
+    return comparing.agreed(f"{which} {kind}", cases, FIELDS[which], ours, theirs)
 
 
 @functools.cache
@@ -106,6 +133,8 @@ def run_labels(case, answer):
 
 def labels(which, case, answer):
     yield "cases"
+    if has_half_a_sum(case):
+        yield "half a sum"
     if answer["code"] != "0":
         yield f"refused {int(answer['code']) % 256}"
     else:
@@ -128,11 +157,12 @@ class Compared:
         print(f"test_run: seed {SEED}, {self.which}, {said}", flush=True)
         self.assertEqual({label: found[label] for label in mix if found[label] < mix[label]}, {})
 
-    def test_other_room_for_the_numbers(self):
-        cases = [case for case, _ in some(self.which, 3)]
-        for room in ROOM[self.which]:
-            with self.subTest(room=room):
-                self.assertEqual(len(compare(self.which, f"room {room}", cases, room=room)), len(cases))
+    def test_other_lengths_of_the_numbers(self):
+        """Refusal 1 comes before any other, and nothing changes."""
+        cases = [case._replace(says=run_cases.says(run_cases.BUFFER_LENGTH)) for case, _ in some(self.which, 3)]
+        for length in LENGTHS[self.which]:
+            with self.subTest(length=length):
+                self.assertEqual(len(compare(self.which, f"numbers of {length}", cases, length=length)), len(cases))
 
 
 class Steps(Compared, unittest.TestCase):
@@ -145,7 +175,7 @@ class Runs(Compared, unittest.TestCase):
     def test_other_text_lengths(self):
         for length in TEXT_LENGTHS:
             with self.subTest(length=length):
-                words = [DRIVER, "run", str(len(NUMBERS)), str(length)]
+                words = [DRIVER, "run", str(NUMBERS_BYTES), str(length)]
                 comparing.agreed_texts(f"text in {length} bytes", words, some("run", 3), length)
 
     def test_the_sum_in_a_text_is_the_standing(self):

@@ -9,8 +9,8 @@ import run_cases
 import test_run
 import test_samples
 import worked_cases
-from comparing import SEED
-from run_cases import HEARD_BYTES, ZEROS
+from comparing import NUMBERS_BYTES, SEED
+from run_cases import HEARD_BYTES, SUMS_BYTES, ZEROS
 from worked_cases import BY_HAND, CASE_9
 
 DRIVER = comparing.BUILT / "machine-planted"
@@ -25,6 +25,10 @@ BOTH = {
     "stores-next-to-it": "heard at 128 is 00 .* and 01 for|ups is 1 .* and 4 for",
     "sign-turned": "movement is -15 .* and 15 for|ups is 1 .* and 4 for",
     "state-judged-where-heard": "code is 0 .* and 1048332 for",
+    "numbers-rest-last": "numbers at 31 is 01 .* and 00 for",
+    "moves-refused": "numbers at 0 is 00 .* and a5 for",
+    "numbers-before": "around is numbers-before",
+    "numbers-after": "around is numbers-after",
     "heard-before": "around is heard-before",
     "heard-after": "around is heard-after",
     "what-was-there": "around is answer-by-what-was-there",
@@ -35,9 +39,11 @@ STEP_PLANTS = BOTH | {
     "vertices-wrap": "code is 0 .* and 14 for",
     "pair-wraps": "code is 0 .* and 14 for",
     "bad-pair-has-a-place": "code is 270 .* and 14 for",
-    "moves-refused": "around is movement-rest",
-    "movement-before": "around is movement-before",
-    "movement-after": "around is movement-after",
+    "numbers-byte": "movement is 14 .* and 15 for",
+    "numbers-high-byte": "movement is 16777231 .* and 15 for",
+    "numbers-turned": "movement is 251658240 .* and 15 for",
+    "numbers-one-byte": "movement is 240 .* and -16 for",
+    "numbers-rest-first": "numbers at 4 is 01 .* and 00 for",
 }
 RUN_PLANTS = BOTH | {
     "first-pair-only": "ups is 1 .* and 4 for",
@@ -49,18 +55,24 @@ RUN_PLANTS = BOTH | {
     "last-counts-from-0": "last is 4 .* and 5 for",
     "rounds-never-close": "rounds is 0 .* and 1 for",
     "rounds-close-early": "rounds is 3 .* and 0 for",
+    "numbers-byte": "steps is 4 .* and 5 for",
+    "numbers-high-byte": "steps is 16777221 .* and 5 for",
+    "numbers-turned": "steps is 83886080 .* and 5 for",
+    "numbers-rest-first": "numbers at 20 is 01 .* and 00 for",
     "adds-to-sums": "sums at 0 is",
     "sums-of-movers-only": "sums at 0 is",
+    "sums-of-64-bytes": "sums at 16 is",
+    "sums-first-byte": "sums at 0 is 1 .* and 0 for",
+    "sums-last-byte": "sums at 63 is 16777216 .* and 0 for",
+    "sums-turned": "sums at 1 is 268435456 .* and 16 for",
+    "sums-one-byte": "sums at 3 is 240 .* and -16 for",
     "stores-before-judging": "heard at 64 is 01 .* and 00 for",
     "judges-schedule-first": "code is 13 .* and 1048332 for",
     "odd-byte-passed-over": "code is 0 .* and 13 for",
     "last-pair-not-judged": "code is 0 .* and 526 for",
-    "moves-refused": "around is numbers-rest",
     "clears-sums": "sums at 0 is 0 .* and -?[0-9]+ for",
     "sums-before": "around is sums-before",
     "sums-after": "around is sums-after",
-    "numbers-before": "around is numbers-before",
-    "numbers-after": "around is numbers-after",
     "text-byte": "text at [0-9]+ is",
     "text-short": "text at [0-9]+ is nothing .* and 0a for",
     "text-long": "text at 0 is",
@@ -74,7 +86,7 @@ PLANTS = {"step": STEP_PLANTS, "run": RUN_PLANTS}
 
 def setUpModule():
     test_samples.setUpModule()
-    wrapped = ["probe_step", "probe_run", "probe_run_text"]
+    wrapped = ["reefsplice_step", "reefsplice_run", "probe_run_text"]
     comparing.build_planted(DRIVER, "machine_driver.c", "planted_machine.c", wrapped)
 
 
@@ -87,21 +99,23 @@ def planted_steps():
 
 
 def planted_runs():
-    """Case 9, a run whose steps but the first change nothing, and refused ones."""
+    """Case 9, its last step alone, a run whose steps but the first change nothing, and refused ones."""
     case = worked_cases.run_by_hand(*BY_HAND["case-9"])._replace(says={})
+    last = list(worked_cases.steps_by_hand(*CASE_9))[-1]
+    falls = case._replace(heard=last.heard, schedule=last.pair)
     idle = case._replace(schedule=bytes([1, 0]) * 12)
     strays = case._replace(schedule=bytes([1, 0, 2, 0, 0, 1]))
     odd = case._replace(schedule=case.schedule + b"\x01")
     unheard = run_cases.with_bytes(ZEROS, {4095: 1})
-    return [case, idle, strays, odd, case._replace(heard=unheard), odd._replace(heard=unheard)]
+    return [case, falls, idle, strays, odd, case._replace(heard=unheard), odd._replace(heard=unheard)]
 
 
 class Planted:
     """One test for each fault."""
 
-    def planted(self, fault, cases=None):
+    def planted(self, fault, cases=None, **how):
         with mock.patch.dict(os.environ, {"PLANT": fault}):
-            return test_run.compare(self.which, "planted", cases or self.cases(), driver=DRIVER)
+            return test_run.compare(self.which, "planted", cases or self.cases(), driver=DRIVER, **how)
 
     def held(self, fault):
         with self.assertRaises(AssertionError) as found:
@@ -117,10 +131,16 @@ class Planted:
         with mock.patch.object(comparing, "LONGEST_RUN", 0.5), found:
             self.planted("stays", self.cases()[:1])
 
+    def of_other_lengths(self):
+        """Cases in which one buffer has a wrong length, each with the length of the numbers."""
+        case = self.cases()[0]._replace(says={})
+        yield case, NUMBERS_BYTES - 1
+        yield case._replace(heard=bytes(HEARD_BYTES - 1)), NUMBERS_BYTES
+
     def test_any_length(self):
-        short = [self.cases()[0]._replace(heard=bytes(HEARD_BYTES - 1), says={})]
-        with self.assertRaisesRegex(AssertionError, "code is 0 .* and 1 for"):
-            self.planted("any-length", short)
+        for case, length in self.of_other_lengths():
+            with self.assertRaisesRegex(AssertionError, "code is 0 .* and 1 for"):
+                self.planted("any-length", [case], length=length)
 
 
 class PlantedSteps(Planted, unittest.TestCase):
@@ -131,6 +151,10 @@ class PlantedSteps(Planted, unittest.TestCase):
 class PlantedRuns(Planted, unittest.TestCase):
     which = "run"
     cases = staticmethod(planted_runs)
+
+    def of_other_lengths(self):
+        yield from super().of_other_lengths()
+        yield self.cases()[0]._replace(sums=bytes(SUMS_BYTES + 1)), NUMBERS_BYTES
 
 
 test_samples.add_tests(PlantedSteps, PLANTS["step"])

@@ -1,18 +1,18 @@
-//! The proved code and the second program on the same bytes in one process.
+//! The C entries of the proved code and the second program on the same bytes in one process.
 //!
 //! `bench time BATCHES WORK..` times both in turn and prints a line: the table's records, the numbers of the answer,
-//! the median nanoseconds of the proved reader alone and of one call by each, and the median of second/proved over the
-//! pairs of batches.
+//! the median nanoseconds of the proved reader alone and of one call by each, on a processor, and the median of
+//! second/proved over the pairs of batches.
 //! `bench repeat reading|proved|second COUNT WORK..` makes so many calls and prints nothing, for counting instructions.
 //! WORK is `check TABLE`, `run TABLE SCHEDULE`, or `step TABLE SCHEDULE`: its last pair, after those before it.
 
-mod probe;
+mod clock;
+mod entries;
 mod work;
 
 use std::env;
 use std::fs;
 use std::hint::black_box;
-use std::time::Instant;
 
 use work::{Check, Run, Step, Who, Work};
 
@@ -32,9 +32,9 @@ fn repeat(work: &mut impl Work, who: Who, count: usize) {
 
 /// Nanoseconds of one call, over a batch.
 fn batch(work: &mut impl Work, who: Who, count: usize) -> f64 {
-    let start = Instant::now();
+    let start = clock::now();
     repeat(work, who, count);
-    start.elapsed().as_nanos() as f64 / count as f64
+    (clock::now() - start) / count as f64
 }
 
 fn median(mut numbers: Vec<f64>) -> f64 {

@@ -1,9 +1,13 @@
-//! What is measured: a check, a step or a run, by the proved code or by the second program, on the same bytes.
+//! What is measured: a check, a step or a run, by its C entry or by the second program, on the same bytes.
 
 use second::limits::{HEARD_BYTES, RING_BYTES, ROWS_BYTES, VERTICES};
-use second::{Refusal, Verdict};
+use second::{Answer, Refusal, Verdict};
 
-use crate::probe;
+use crate::entries;
+
+const WORD_BYTES: usize = 4;
+const NUMBERS_BYTES: usize = 32;
+const SUMS_BYTES: usize = WORD_BYTES * VERTICES;
 
 #[derive(Clone, Copy)]
 pub enum Who {
@@ -17,6 +21,8 @@ pub enum Who {
 pub trait Work: Clone + PartialEq {
     fn table(&self) -> &[u8];
     fn proved(&mut self) -> u64;
+
+    /// The same, and what C sees of it: the code, and the bytes of numbers and sums.
     fn second(&mut self) -> u64;
 
     /// The call's numbers, once it has been made.
@@ -24,7 +30,7 @@ pub trait Work: Clone + PartialEq {
 
     fn call(&mut self, who: Who) -> u64 {
         match who {
-            Who::Reading => probe::read(self.table()),
+            Who::Reading => entries::read(self.table()),
             Who::Proved => self.proved(),
             Who::Second => self.second(),
         }
@@ -35,11 +41,30 @@ pub trait Work: Clone + PartialEq {
     }
 }
 
+/// Numbers as C has them: four bytes each, low byte first, then zeros.
+fn laid<const BYTES: usize>(words: impl IntoIterator<Item = [u8; WORD_BYTES]>) -> [u8; BYTES] {
+    let mut bytes = [0; BYTES];
+    for (place, word) in bytes.chunks_exact_mut(WORD_BYTES).zip(words) {
+        place.copy_from_slice(&word);
+    }
+    bytes
+}
+
+/// These words of a buffer of numbers, with a space between two.
+fn printed(numbers: &[u8; NUMBERS_BYTES], words: &[usize]) -> String {
+    let word = |at: &usize| {
+        let bytes = &numbers[WORD_BYTES * at..][..WORD_BYTES];
+        i32::from_le_bytes(bytes.try_into().unwrap()).to_string()
+    };
+    words.iter().map(word).collect::<Vec<_>>().join(" ")
+}
+
 #[derive(Clone, PartialEq)]
 pub struct Check {
     table: Vec<u8>,
     rows: [u8; ROWS_BYTES],
     ring: [u8; RING_BYTES],
+    numbers: [u8; NUMBERS_BYTES],
 }
 
 impl Check {
@@ -48,7 +73,21 @@ impl Check {
             table,
             rows: [0; ROWS_BYTES],
             ring: [0; RING_BYTES],
+            numbers: [0; NUMBERS_BYTES],
         }
+    }
+
+    fn accepted(&mut self, ring_length: u32, answer: Answer) -> u64 {
+        let Answer {
+            settled,
+            stuck,
+            stages,
+            longest,
+            ..
+        } = answer;
+        let words = [ring_length, settled, stuck, stages, longest];
+        self.numbers = laid(words.map(u32::to_le_bytes));
+        0
     }
 }
 
@@ -58,21 +97,26 @@ impl Work for Check {
     }
 
     fn proved(&mut self) -> u64 {
-        probe::check(&self.table, &mut self.rows, &mut self.ring)
+        entries::check(
+            &self.table,
+            &mut self.rows,
+            &mut self.ring,
+            &mut self.numbers,
+        )
     }
 
     fn second(&mut self) -> u64 {
-        match second::check(&self.table, &mut self.rows, &mut self.ring).verdict {
+        let answer = second::check(&self.table, &mut self.rows, &mut self.ring);
+        match answer.verdict {
+            Verdict::Complete => self.accepted(0, answer),
+            Verdict::Stuck(ring_length) => self.accepted(ring_length, answer),
             Verdict::Refused(number, place) => Refusal { number, place }.code(),
-            _ => 0,
         }
     }
 
+    /// s, L, settled and stuck.
     fn numbers(&self) -> String {
-        let (mut rows, mut ring) = (self.rows, self.ring);
-        let answer = second::check(&self.table, &mut rows, &mut ring);
-        let [s, l] = [answer.stages, answer.longest];
-        format!("{s} {l} {} {}", answer.settled, answer.stuck)
+        printed(&self.numbers, &[3, 4, 1, 2])
     }
 }
 
@@ -95,7 +139,7 @@ pub struct Step {
     table: Vec<u8>,
     state: State,
     pair: [u8; 2],
-    movement: i32,
+    numbers: [u8; NUMBERS_BYTES],
 }
 
 impl Step {
@@ -109,7 +153,7 @@ impl Step {
             table,
             state: State { start, heard },
             pair: [pair[0], pair[1]],
-            movement: 0,
+            numbers: [0; NUMBERS_BYTES],
         }
     }
 }
@@ -120,26 +164,24 @@ impl Work for Step {
     }
 
     fn proved(&mut self) -> u64 {
-        let mut movement = [0];
         let [v, u] = self.pair;
-        let code = probe::step(&self.table, self.state.fresh(), v, u, &mut movement);
-        self.movement = movement[0];
-        code
+        entries::step(&self.table, self.state.fresh(), v, u, &mut self.numbers)
     }
 
     fn second(&mut self) -> u64 {
         let [v, u] = self.pair.map(u32::from);
         match second::step(&self.table, self.state.fresh(), v, u) {
             Ok(movement) => {
-                self.movement = movement;
+                self.numbers = laid([movement.to_le_bytes()]);
                 0
             }
             Err(refusal) => refusal.code(),
         }
     }
 
+    /// The movement.
     fn numbers(&self) -> String {
-        self.movement.to_string()
+        printed(&self.numbers, &[0])
     }
 }
 
@@ -148,8 +190,8 @@ pub struct Run {
     table: Vec<u8>,
     state: State,
     schedule: Vec<u8>,
-    sums: [i32; VERTICES],
-    numbers: [u32; 5],
+    sums: [u8; SUMS_BYTES],
+    numbers: [u8; NUMBERS_BYTES],
 }
 
 impl Run {
@@ -161,8 +203,8 @@ impl Run {
                 heard: [0; HEARD_BYTES],
             },
             schedule,
-            sums: [0; VERTICES],
-            numbers: [0; 5],
+            sums: [0; SUMS_BYTES],
+            numbers: [0; NUMBERS_BYTES],
         }
     }
 }
@@ -173,7 +215,7 @@ impl Work for Run {
     }
 
     fn proved(&mut self) -> u64 {
-        probe::run(
+        entries::run(
             &self.table,
             self.state.fresh(),
             &self.schedule,
@@ -183,17 +225,19 @@ impl Work for Run {
     }
 
     fn second(&mut self) -> u64 {
-        let heard = self.state.fresh();
-        match second::run(&self.table, heard, &self.schedule, &mut self.sums) {
+        let mut sums = [0; VERTICES];
+        match second::run(&self.table, self.state.fresh(), &self.schedule, &mut sums) {
             Ok(numbers) => {
-                self.numbers = numbers.in_order();
+                self.numbers = laid(numbers.in_order().map(u32::to_le_bytes));
+                self.sums = laid(sums.map(i32::to_le_bytes));
                 0
             }
             Err(refusal) => refusal.code(),
         }
     }
 
+    /// Steps, ups, downs, last change and rounds.
     fn numbers(&self) -> String {
-        self.numbers.map(|number| number.to_string()).join(" ")
+        printed(&self.numbers, &[0, 1, 2, 3, 4])
     }
 }

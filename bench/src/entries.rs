@@ -1,37 +1,40 @@
-//! The proved code, as `rt staticlib probe` exports it, on Rust's slices.
+//! The proved code on Rust's slices: the three C entries, which `rt staticlib reefsplice` exports, and the reader
+//! alone, which `rt staticlib probe` does.
 
 // Rattle passes a slice as a pointer, then its length.
 extern "C" {
-    fn probe_read(table: *const u8, table_length: usize) -> u64;
-    fn probe_check(
+    fn probe_read(table: *const u8, table_len: usize) -> u64;
+    fn reefsplice_check(
         table: *const u8,
-        table_length: usize,
+        table_len: usize,
         rows: *mut u8,
-        rows_length: usize,
+        rows_len: usize,
         ring: *mut u8,
-        ring_length: usize,
+        ring_len: usize,
+        numbers: *mut u8,
+        numbers_len: usize,
     ) -> u64;
-    fn probe_step(
+    fn reefsplice_step(
         table: *const u8,
-        table_length: usize,
+        table_len: usize,
         heard: *mut u8,
-        heard_length: usize,
+        heard_len: usize,
         listener: u8,
         speaker: u8,
-        movement: *mut i32,
-        movement_length: usize,
+        numbers: *mut u8,
+        numbers_len: usize,
     ) -> u64;
-    fn probe_run(
+    fn reefsplice_run(
         table: *const u8,
-        table_length: usize,
+        table_len: usize,
         heard: *mut u8,
-        heard_length: usize,
+        heard_len: usize,
         schedule: *const u8,
-        schedule_length: usize,
-        sums: *mut i32,
-        sums_length: usize,
-        numbers: *mut u32,
-        numbers_length: usize,
+        schedule_len: usize,
+        sums: *mut u8,
+        sums_len: usize,
+        numbers: *mut u8,
+        numbers_len: usize,
     ) -> u64;
 }
 
@@ -40,32 +43,34 @@ pub fn read(table: &[u8]) -> u64 {
     unsafe { probe_read(table.as_ptr(), table.len()) }
 }
 
-pub fn check(table: &[u8], rows: &mut [u8], ring: &mut [u8]) -> u64 {
+pub fn check(table: &[u8], rows: &mut [u8], ring: &mut [u8], numbers: &mut [u8]) -> u64 {
     // SAFETY: the slices are apart and live through the call, and the lengths are theirs.
     unsafe {
-        probe_check(
+        reefsplice_check(
             table.as_ptr(),
             table.len(),
             rows.as_mut_ptr(),
             rows.len(),
             ring.as_mut_ptr(),
             ring.len(),
+            numbers.as_mut_ptr(),
+            numbers.len(),
         )
     }
 }
 
-pub fn step(table: &[u8], heard: &mut [u8], v: u8, u: u8, movement: &mut [i32]) -> u64 {
+pub fn step(table: &[u8], heard: &mut [u8], v: u8, u: u8, numbers: &mut [u8]) -> u64 {
     // SAFETY: the slices are apart and live through the call, and the lengths are theirs.
     unsafe {
-        probe_step(
+        reefsplice_step(
             table.as_ptr(),
             table.len(),
             heard.as_mut_ptr(),
             heard.len(),
             v,
             u,
-            movement.as_mut_ptr(),
-            movement.len(),
+            numbers.as_mut_ptr(),
+            numbers.len(),
         )
     }
 }
@@ -74,12 +79,12 @@ pub fn run(
     table: &[u8],
     heard: &mut [u8],
     schedule: &[u8],
-    sums: &mut [i32],
-    numbers: &mut [u32],
+    sums: &mut [u8],
+    numbers: &mut [u8],
 ) -> u64 {
     // SAFETY: the slices are apart and live through the call, and the lengths are theirs.
     unsafe {
-        probe_run(
+        reefsplice_run(
             table.as_ptr(),
             table.len(),
             heard.as_mut_ptr(),
