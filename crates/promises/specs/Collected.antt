@@ -14,8 +14,8 @@ use Rattle.rules.specs.Table.{pathsOf, listens}
 use Rattle.rules.specs.Report.{rowAt, pathShown, report}
 use Rattle.rules.specs.Machine.{Pair, choice}
 use Rattle.rules.specs.Refusals.{refusal}
-use Rattle.rules.specs.Answers.{checkRefusal, checkNumbers, unless, runRefusal, runNumbers, heardAfterRun, stepRefusal, heardAfterStep}
-use Rattle.rules.specs.Entries.{wordBytes, numberBytes, checkRefusalForC, rowsForC, checkNumbersForC, stepRefusalForC, heardStepForC, runRefusalForC, heardRunForC, runNumbersForC}
+use Rattle.rules.specs.Answers.{checkRefusal, checkNumbers, unless, runNumbers, heardAfterRun, heardAfterStep}
+use Rattle.rules.specs.Entries.{wordBytes, numberBytes, checkRefusalForC, rowsForC, checkNumbersForC, heardStepForC, heardRunForC, runNumbersForC}
 use Rattle.rules.specs.EntryLaws.{numberAt, number-told, number-most, check-zero, check-none, step-zero, step-none, run-zero, run-none}
 use Rattle.rules.specs.AnswerLaws.{check-admitted}
 use Rattle.rules.specs.ShapeLaws.{longest-most}

@@ -2,22 +2,20 @@
 use mathlib.Core.Path.{_≡_, sym, ap, _∙_}
 use mathlib.Core.List.{List, [], _∷_}
 use mathlib.Core.Option.{Option, none, some}
-use Prim.Native.Nat.{ℕ, _+_, _*_, _<_, _≤_}
-use native.Mathlib.Omega.{arith}
+use Prim.Native.Nat.{ℕ, _+_, _*_, _<_}
 use lib.ListN.{length, replicate}
-use lib.IntN.{ℤ, pos, natAbs}
-use Rattle.lists.specs.Tests.{by-option}
+use lib.IntN.{ℤ, pos}
 use Rattle.rules.specs.Table.{pathsOf}
 use Rattle.rules.specs.Refusals.{Refusal}
 use Rattle.rules.specs.Report.{report}
 use Rattle.rules.specs.Machine.{Pair, movement}
 use Rattle.rules.specs.Machine as rules
 use Rattle.rules.specs.Run as rules-run
-use Rattle.rules.specs.Answers.{unless, checkRefusal, checkVerdict, checkNumbers, rowsAfter, ringAfter, stepRefusal, stepMovement, heardAfterStep, runRefusal, runNumbers, heardAfterRun, sumsAfterRun}
-use Rattle.rules.specs.Entries.{codeOf, wordBytes, numberBytes, twosComplement, sumBytes, checkRefusalForC, rowsForC, ringForC, checkNumbersForC, stepRefusalForC, heardStepForC, stepNumbersForC, runRefusalForC, heardRunForC, sumsForC, runNumbersForC}
+use Rattle.rules.specs.Answers.{unless, checkRefusal, checkVerdict, checkNumbers, rowsAfter, ringAfter, stepRefusal, stepMovement, heardAfterStep, runRefusal, heardAfterRun, sumsAfterRun}
+use Rattle.rules.specs.Entries.{codeOf, numberBytes, twosComplement, sumBytes, checkRefusalForC, rowsForC, ringForC, checkNumbersForC, stepRefusalForC, heardStepForC, stepNumbersForC, runRefusalForC, heardRunForC, sumsForC, runNumbersForC}
 use Rattle.rules.specs.EntryLaws.{check-other, check-same, step-other, step-same, run-other, run-other-sums, run-same}
 use Rattle.rules.specs.MachineLaws.{movement-most}
-use Rattle.rules.specs.RefusalLaws.{Numbered, check-numbered, step-numbered, run-numbered}
+use Rattle.rules.specs.RefusalLaws.{check-numbered, step-numbered, run-numbered}
 use Rattle.rules.specs.TableLaws.{at}
 use Rattle.answer.specs.declared.Answer.{Answer}
 use Rattle.answer.specs.declared.Verdict.the-variants as verdict

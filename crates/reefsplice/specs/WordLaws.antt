@@ -2,19 +2,18 @@
 use mathlib.Core.Path.{_≡_, refl, sym, ap, _∙_}
 use mathlib.Core.Bool.{true, false}
 use mathlib.Core.List.{List, [], _∷_, _++_, map}
-use Prim.Native.Nat.{ℕ, zero, suc, _+_, _-_, _*_, _/_, _%_, _<_, _≤_}
+use Prim.Native.Nat.{ℕ, _+_, _-_, _*_, _/_, _%_, _<_, _≤_}
 use native.Mathlib.Omega.{arith}
-use native.Mathlib.Nat.{mul-comm}
 use lib.ListN.{length, getD, take, drop, set, length-map, List·getD-map, List·getD-eq-default}
 use lib.Seq.{take-all}
 use lib.IntN.{ℤ, pos, negsuc, natAbs, _-ℤ_}
 use lib.Signed.{leZ}
 use mir.Syntax.{w32}
-use mir.Val.{SFits, toZ, ofZ}
+use mir.Val.{SFits}
 use mir.Facts.{toZ-ofZ}
 use Rattle.lists.specs.Tests.{true≢}
 use Rattle.lists.specs.Fill.{blocks, tabulate}
-use Rattle.lists.specs.FillLaws.{blocks-none, blocks-ext, is-tabulate}
+use Rattle.lists.specs.FillLaws.{blocks-none, is-tabulate}
 use Rattle.lists.specs.RenewLaws.{block-length, block-more}
 use Rattle.lists.specs.SignedLaws.{back, under, left-back}
 use Rattle.rules.specs.Entries.{fourBytes, wordBytes, numberBytes, twosComplement, sumBytes}

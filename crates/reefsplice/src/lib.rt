@@ -5,7 +5,6 @@ ghost use mathlib.Core.Path.{_≡_};
 ghost use mathlib.Core.List.{[], _∷_};
 ghost use Prim.Native.Nat.{_+_, _*_, _<_};
 ghost use lib.ListN.{length};
-ghost use Rattle.answer.specs.Meaning.{numbers};
 ghost use Rattle.rules.specs.Entries.{codeOf, numberBytes, checkRefusalForC, rowsForC, ringForC, checkNumbersForC, stepRefusalForC, heardStepForC, stepNumbersForC, runRefusalForC, heardRunForC, sumsForC, runNumbersForC};
 ghost use Rattle.answer.specs.Moves.{runNumbersIn};
 use crate::words::complement;

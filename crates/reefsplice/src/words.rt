@@ -1,6 +1,5 @@
 // Numbers as C reads them: four bytes each, low byte first.
 ghost use mathlib.Core.Path.{_≡_};
-ghost use mathlib.Core.List.{map};
 ghost use Prim.Native.Nat.{_*_};
 ghost use lib.ListN.{length};
 ghost use Rattle.rules.specs.Entries.{fourBytes, wordBytes, numberBytes, twosComplement, sumBytes};

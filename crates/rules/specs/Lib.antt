@@ -14,6 +14,7 @@ pub mod Entries
 -- The worked examples.
 pub mod Examples
 pub mod TextExamples
+pub mod EntryExamples
 -- The laws of accepted tables, and all of them in one place.
 pub mod Shape
 pub mod Accepted
