@@ -1,6 +1,6 @@
 -- What the entries for C return and write, worked by hand: a code, the numbers of the page's case 9 and of its table 5, and signed numbers.
 use mathlib.Core.Path.{_≡_, refl}
-use mathlib.Core.List.{List, [], _∷_, _++_, map}
+use mathlib.Core.List.{List, [], _∷_, _++_}
 use mathlib.Core.Option.{none, some}
 use Prim.Native.Nat.{ℕ}
 use lib.ListN.{replicate}
