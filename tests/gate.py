@@ -21,7 +21,12 @@ COUNTS = re.compile(r"(\d+) passed, (\d+) failed")
 # How the prover names what fails: at a proof file, and at a function that has none.
 COMPLAINT = re.compile(r"\berror[:\[]|it is not proved that")
 # What the prover says first where an edit only made the proof file unfit for the code, so that no fact was tried.
-MISFITS = ("has no `Need-", "is not in scope", "a dimension (`0`, `1` or an interval variable) is expected here")
+MISFITS = (
+    "has no `Need-",
+    "` has no field `",
+    "is not in scope",
+    "a dimension (`0`, `1` or an interval variable) is expected here",
+)
 LONGEST_LINE = 300
 
 

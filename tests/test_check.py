@@ -50,7 +50,7 @@ LENGTHS += [(0, 0, 0), (64, 1024, 32), (1023, 65, 32), (1023, 64, 33)]
 # Lengths of the buffer for the text: a shorter one takes as much of it as fits, and a longer one keeps its rest.
 TEXT_LENGTHS = [0, 1, 8, 50, 51, 100, 1000, 16383, 20000]
 
-# Each fault of planted.c, and what the comparison must say of it.
+# Each fault of planted_check.c, and what the comparison must say of it.
 PLANTS = {
     "number": "code is 1 .* and 0 for",
     "place": "code is 256 .* and 0 for",
@@ -93,7 +93,7 @@ PLANTS = {
 def setUpModule():
     print(f"test_check: seed {SEED}", flush=True)
     comparing.build_driver(DRIVER, "check_driver.c")
-    comparing.build_planted(PLANTED, "check_driver.c", "planted.c", ["reefsplice_check", "probe_text"])
+    comparing.build_planted(PLANTED, "check_driver.c", "planted_check.c", ["reefsplice_check", "probe_text"])
 
 
 def numbers_by(ring, text):

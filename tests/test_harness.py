@@ -109,7 +109,8 @@ class Harness(unittest.TestCase):
 
     def test_seeds_until_the_time_is_over(self):
         status, lines = run("--minutes", "0.02", "--seed", "7")
-        self.assertEqual((status, lines[1]), (SAME, "seeds 7 to 7"))
+        self.assertEqual(status, SAME)
+        self.assertRegex(lines[1], r"^seeds 7 to \d+$")
         self.assertGreater(int(ENDED.fullmatch(lines[-1])[1]), 0)
 
     def test_its_own_tests(self):

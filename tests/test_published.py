@@ -12,7 +12,7 @@ from typing import NamedTuple
 import settling_cases
 import test_program
 import test_samples
-from run_cases import NUMBER_BYTES, SUMS, ZEROS, offset, with_bytes
+from run_cases import SUMS_BYTES, ZEROS, offset, with_bytes
 from settling_cases import NONE
 
 STDOUT = test_samples.ROOT / "crates" / "published_program" / "stdout"
@@ -61,7 +61,7 @@ def of_lists(*lists):
 # ---- DISAGREE, Tables 2 and 3
 
 TABLE_3 = [paths("1 0 | 2 1 0"), paths("1 2 0 | 2 0")]
-ROW_1 = row("row 1, pairs", "1 0,2 0", "1 0 | 2 0")
+ROW_1 = row("from zeros, row 1, pairs", "1 0,2 0", "1 0 | 2 0")
 DISAGREE = Published(
     "disagree",
     of_lists("1 2 0 | 1 0", "2 1 0 | 2 0"),
@@ -106,7 +106,7 @@ TABLE_4 = [
     row("row 9, pairs", "1 2,3 2,4 2", "1 0 | - | 3 0 | 4 0"),
 ]
 FOUR_FIRST = row("row 3, 4 first, pairs", "4 2,2 4", "1 0 | 2 3 0 | 3 0 | 4 2 3 0")
-TWO_FIRST = row("row 3, 2 first, pairs", "2 4,4 2", "1 0 | 2 4 0 | 3 0 | 4 0")
+TWO_FIRST = row("row 3 after row 2 again, 2 first, pairs", "2 4,4 2", "1 0 | 2 4 0 | 3 0 | 4 0")
 TABLE_5 = paths("1 0 | 2 4 3 0 | 3 0 | 4 3 0")
 ROUND = Row("round, pairs", list(map(path, "1 0,3 0,4 0,4 3,2 4,1 2,2 1,2 3,3 2,4 2".split(","))), TABLE_5)
 
@@ -189,7 +189,7 @@ class Ran(NamedTuple):
 
 def ran(table, heard, pairs):
     schedule = bytes(number for pair in pairs for number in pair)
-    code, *numbers, heard, sums, _ = second_lines("run-batch", table, heard, schedule, bytes(NUMBER_BYTES * SUMS))
+    code, *numbers, heard, sums, _ = second_lines("run-batch", table, heard, schedule, bytes(SUMS_BYTES))
     if code != "0":
         raise AssertionError(f"refused with {code}")
     return Ran(numbers, bytes.fromhex(heard), sums.split(","))

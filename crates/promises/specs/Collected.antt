@@ -3,25 +3,27 @@
 use Prim.{Unit}
 use Prim.Native.Nat.{ℕ, suc, _+_, _*_, _<_, _≤_}
 use native.Mathlib.Omega.{arith}
-use mathlib.Core.Path.{_≡_, refl, sym, ap, _∙_}
+use mathlib.Core.Path.{_≡_, refl, sym, ap, _∙_, subst}
 use mathlib.Core.Logic.{_≢_}
 use mathlib.Core.Bool.{true}
-use mathlib.Core.List.{List, [], _∷_, map}
+use mathlib.Core.List.{List, [], _∷_, _++_, map}
 use mathlib.Core.Option.{none}
-use lib.ListN.{getD, replicate}
+use lib.ListN.{length, getD, replicate}
 use lib.IntN.{pos}
 use Rattle.rules.specs.Table.{pathsOf, listens}
 use Rattle.rules.specs.Report.{rowAt, pathShown, report}
 use Rattle.rules.specs.Machine.{Pair, choice}
+use Rattle.rules.specs.Run.{pairsIn}
 use Rattle.rules.specs.Refusals.{refusal}
 use Rattle.rules.specs.Answers.{checkRefusal, checkNumbers, unless, runNumbers, heardAfterRun, heardAfterStep}
-use Rattle.rules.specs.Entries.{wordBytes, numberBytes, checkRefusalForC, rowsForC, checkNumbersForC, heardStepForC, heardRunForC, runNumbersForC}
-use Rattle.rules.specs.EntryLaws.{numberAt, number-told, number-most, check-zero, check-none, step-zero, step-none, run-zero, run-none}
-use Rattle.rules.specs.AnswerLaws.{check-admitted}
+use Rattle.rules.specs.Entries.{wordBytes, numberBytes, checkRefusalForC, rowsForC, ringForC, checkNumbersForC, heardStepForC, stepNumbersForC, heardRunForC, sumsForC, runNumbersForC}
+use Rattle.rules.specs.EntryLaws.{numberAt, number-told, code-none, check-same, check-zero, check-none, step-same, step-zero, step-none, run-same, run-zero, run-none, run-any-sums}
+use Rattle.rules.specs.AnswerLaws.{lent-right, check-admitted}
+use Rattle.rules.specs.RefusalLaws.{rounds-few}
 use Rattle.rules.specs.ShapeLaws.{longest-most}
 use Rattle.rules.specs.RoundLaws.{contains-fewer}
 use Rattle.reefsplice.specs.Called.{CheckCalled, StepCalled, RunCalled}
-use Rattle.theorems.specs.Claims.{Call, ofRun, ofStep, callRefusal, heardAfterCall, roundsOfCall, AllAccepted, heardAfter, pairsOf, roundsAnswered, listeningPairs, Valid, rowOf, Given, Stays}
+use Rattle.theorems.specs.Claims.{Call, ofRun, ofStep, callRefusal, heardAfterCall, roundsOfCall, AllAccepted, heardAfter, pairsOfCall, pairsOf, roundsAnswered, listeningPairs, Valid, rowOf, Given, Stays}
 use Rattle.theorems.specs.Settling.{settling-answered, settling-heard, answered-contained}
 
 -- A call as the collector saw it: what it lent, and what it found there afterwards.
@@ -29,7 +31,8 @@ pub data Seen : Type 0 where
   ran : (schedule sums numbers heardNow sumsNow numbersNow : List ℕ) → Seen
   stepped : (pair : Pair) (numbers heardNow numbersNow : List ℕ) → Seen
 
--- Calls one after the other, each on the heard state that the one before has left: the entry's contract, with the code 0.
+-- Calls one after the other, each on the heard state that the one before has left: the entry's contract, with the code 0. A call that was
+-- refused has changed nothing, and is left out.
 unfoldable pub AllCalled : List ℕ → List ℕ → List Seen → Type 0
 AllCalled t heard [] = Unit {0}
 AllCalled t heard (ran s sums numbers heardNow sumsNow numbersNow ∷ rs) =
@@ -55,7 +58,7 @@ roundsSeen [] = 0
 roundsSeen (r ∷ rs) = roundsIn r + roundsSeen rs
 
 -- the same as calls of the library
-callOf : Seen → Call
+unfoldable pub callOf : Seen → Call
 callOf (ran s sums numbers heardNow sumsNow numbersNow) = ofRun s (replicate 64 (pos 0))
 callOf (stepped p numbers heardNow numbersNow) = ofStep p
 
@@ -64,7 +67,7 @@ module _ (t : List ℕ) where
   record AsCall (heard : List ℕ) (r : Seen) : Type 0 where
     accepted : callRefusal t heard (callOf r) ≡ none
     after : heardAfterCall t heard (callOf r) ≡ heardNowOf r
-    rounds : roundsIn r ≤ roundsOfCall t heard (callOf r)
+    rounds : roundsIn r ≡ roundsOfCall t heard (callOf r)
 
   as-run : (heard s sums numbers heardNow sumsNow numbersNow : List ℕ)
       → RunCalled t heard s sums numbers 0 heardNow sumsNow numbersNow
@@ -77,7 +80,8 @@ module _ (t : List ℕ) where
       record {
         accepted = f;
         after = rw f (sym (called .1 .0 ∙ rw e));
-        rounds = rw told (number-most 8 (runNumbers t heard s (replicate 64 (pos 0))) 4 (omega arith));
+        rounds = ap (λ (l : List ℕ). numberAt l 4) told
+            ∙ number-told 8 (runNumbers t heard s (replicate 64 (pos 0))) 4 (omega arith) (omega (arith, rounds-few t heard s (replicate 64 (pos 0)) f));
       }
 
   as-step : (heard : List ℕ) (p : Pair) (numbers heardNow numbersNow : List ℕ)
@@ -87,13 +91,13 @@ module _ (t : List ℕ) where
   as-step heard p numbers heardNow numbersNow called =
       let e = step-zero t heard p numbers (sym (called .0)) in
       let f = step-none t heard p numbers e in
-      record { accepted = f; after = rw f (sym (called .1 .0 ∙ rw e)); rounds = omega arith }
+      record { accepted = f; after = rw f (sym (called .1 .0 ∙ rw e)); rounds = refl }
 
   -- What the contracts say of all of them.
   record AsCalls (heard : List ℕ) (rs : List Seen) : Type 0 where
     accepted : AllAccepted t heard (map callOf rs)
     left : heardAfter t heard (map callOf rs) ≡ heardLeft heard rs
-    rounds : roundsSeen rs ≤ roundsAnswered t heard (map callOf rs)
+    rounds : roundsSeen rs ≡ roundsAnswered t heard (map callOf rs)
 
   more : (heard : List ℕ) (r : Seen) (rs : List Seen) → AsCall heard r → AsCalls (heardNowOf r) rs → AsCalls heard (r ∷ rs)
   unfolding AllAccepted heardAfter heardLeft roundsAnswered roundsSeen
@@ -106,17 +110,68 @@ module _ (t : List ℕ) where
 
   as-calls : (heard : List ℕ) (rs : List Seen) → AllCalled t heard rs → AsCalls heard rs
   unfolding AllCalled AllAccepted heardAfter heardLeft roundsAnswered roundsSeen heardNowOf
-  as-calls heard [] a = record { accepted = a; left = refl; rounds = omega arith }
+  as-calls heard [] a = record { accepted = a; left = refl; rounds = refl }
   as-calls heard (ran s sums numbers heardNow sumsNow numbersNow ∷ rs) a =
       more heard _ rs (as-run heard s sums numbers heardNow sumsNow numbersNow (a .0)) (as-calls heardNow rs (a .1))
   as-calls heard (stepped p numbers heardNow numbersNow ∷ rs) a =
       more heard _ rs (as-step heard p numbers heardNow numbersNow (a .0)) (as-calls heardNow rs (a .1))
+
+-- What the collector sees of calls that the library accepts, where it lends zeros: so there is no history of accepted calls that could not be
+-- seen.
+unfoldable pub seenOf : List ℕ → List ℕ → List Call → List Seen
+seenOf t heard [] = []
+seenOf t heard (ofRun s sums ∷ cs) =
+    let a : List ℕ = replicate 256 0 in
+    let b : List ℕ = replicate 32 0 in
+    let now = heardRunForC t heard s a b in
+    ran s a b now (sumsForC t heard s a b) (runNumbersForC t heard s a b) ∷ seenOf t now cs
+seenOf t heard (ofStep p ∷ cs) =
+    let b : List ℕ = replicate 32 0 in
+    let now = heardStepForC t heard p b in
+    stepped p b now (stepNumbersForC t heard p b) ∷ seenOf t now cs
+
+pub all-seen : (t heard : List ℕ) (calls : List Call) → AllAccepted t heard calls → AllCalled t heard (seenOf t heard calls)
+unfolding AllAccepted AllCalled seenOf callRefusal heardAfterCall heardAfterRun heardAfterStep heardRunForC heardStepForC unless
+all-seen t heard [] a = a
+all-seen t heard (ofRun s sums ∷ cs) a =
+    let f = run-same t heard s (replicate 256 0) (replicate 32 0) refl refl ∙ run-any-sums t heard s sums (replicate 64 (pos 0)) refl (a .0) in
+    let same : heardRunForC t heard s (replicate 256 0) (replicate 32 0) ≡ heardAfterRun t heard s sums = rw (f, a .0) in (
+      (sym (code-none _ f), (refl, (refl, refl))),
+      all-seen t _ cs (subst (λ (h : List ℕ). AllAccepted t h cs) (sym same) (a .1)),
+    )
+all-seen t heard (ofStep p ∷ cs) a =
+    let f = step-same t heard p (replicate 32 0) refl ∙ a .0 in
+    let same : heardStepForC t heard p (replicate 32 0) ≡ heardAfterStep t heard p = rw (f, a .0) in (
+      (sym (code-none _ f), (refl, refl)),
+      all-seen t _ cs (subst (λ (h : List ℕ). AllAccepted t h cs) (sym same) (a .1)),
+    )
+
+-- and it is the same pairs
+pub seen-pairs : (t heard : List ℕ) (calls : List Call) → pairsOf (map callOf (seenOf t heard calls)) ≡ pairsOf calls
+unfolding seenOf callOf pairsOf pairsOfCall
+seen-pairs t heard [] = refl
+seen-pairs t heard (ofRun s sums ∷ cs) = ap (λ (l : List Pair). pairsIn s ++ l) (seen-pairs t _ cs)
+seen-pairs t heard (ofStep p ∷ cs) = ap (λ (l : List Pair). p ∷ l) (seen-pairs t _ cs)
 
 -- What the collector holds: a check of the table, a valid heard state, and calls on it. No entry has refused.
 pub record Collected (t rows ring numbers rowsNow ringNow numbersNow heard : List ℕ) (rs : List Seen) : Type 0 where
   pub check : CheckCalled t rows ring numbers 0 rowsNow ringNow numbersNow
   pub state : Valid t heard
   pub calls : AllCalled t heard rs
+
+-- it holds so much of every accepted table, every valid heard state and every history of accepted calls
+pub collectable : (t heard : List ℕ) (calls : List Call)
+    → refusal t ≡ none
+    → Valid t heard
+    → AllAccepted t heard calls
+    → (rows ring numbers : List ℕ)
+    → length rows ≡ 1024
+    → length ring ≡ 64
+    → length numbers ≡ 32
+    → Collected t rows ring numbers (rowsForC t rows ring numbers) (ringForC t rows ring numbers) (checkNumbersForC t rows ring numbers) heard (seenOf t heard calls)
+collectable t heard calls accepted valid each rows ring numbers d e f =
+    let none-left = check-same t rows ring numbers f ∙ lent-right t rows ring d e ∙ accepted in
+    record { check = (sym (code-none _ none-left), (refl, (refl, refl))); state = valid; calls = all-seen t heard calls each }
 
 module _ (t rows ring numbers rowsNow ringNow numbersNow heard : List ℕ) (rs : List Seen)
     (held : Collected t rows ring numbers rowsNow ringNow numbersNow heard rs) (v : ℕ) (vertex : v < 64)
@@ -167,6 +222,16 @@ module _ (t rows ring numbers rowsNow ringNow numbersNow heard : List ℕ) (rs :
       let stays = settling-answered t heard v _ (map callOf rs) given (omega (arith, enough-is, all .rounds)) in
       let here : Stays t (heardLeft heard rs) v = rw (all .left) at stays in
       (here .now .path ∙ ap (λ (rows : List ℕ). pathShown (rowAt rows v)) (sym same-rows), here)
+
+  -- It still is after all calls that may follow.
+  pub collected-later : enough ≤ roundsSeen rs
+      → (later : List Seen)
+      → AllCalled t (heardLeft heard rs) later
+      → choice (pathsOf t) (heardLeft (heardLeft heard rs) later) v ≡ pathShown (rowAt rowsNow v)
+  collected-later h later called =
+      let all = as-calls t (heardLeft heard rs) later called in
+      let then = collected h .1 .afterwards (map callOf later) (all .accepted) .path in
+      ap (λ (x : List ℕ). choice (pathsOf t) x v) (sym (all .left)) ∙ then ∙ ap (λ (x : List ℕ). pathShown (rowAt x v)) (sym same-rows)
 
   -- With one round more the collector sees it in the heard state: every router that listens to it holds the rank in its row.
   pub collected-heard : suc enough ≤ roundsSeen rs

@@ -53,7 +53,7 @@ fn show_rest(table: &[u8], heard: [u8; 4096]) {
 // Row 2 of Table 2 needs its two pairs at one moment; one by one they end in a stable state of Table 3.
 fn show_table_2(title: &[u8], table: &[u8], rows: &[u8]) {
     let mut heard = [0; 4096];
-    show_row(b"row 1, pairs", table, &mut heard, rows, 0, 4);
+    show_row(b"from zeros, row 1, pairs", table, &mut heard, rows, 0, 4);
     show_row(title, table, &mut heard, rows, 4, 4);
     show_rest(table, heard);
 }
@@ -75,7 +75,7 @@ fn show_rounds(table: &[u8], rows: &[u8]) {
 }
 
 fn show_bad_gadget() {
-    say(b"BAD GADGET of 001: Figure 1a\n");
+    say(b"BAD GADGET of 001: Figure 1a, by its well-known lists\n");
     let table = bad_gadget();
     show_check(&table);
     show_rounds(&table, &bad_gadget_rounds());
@@ -89,7 +89,14 @@ fn show_table_4(table: &[u8], rows: &[u8], turned: &[u8]) {
     show_row(b"row 2, pairs", table, &mut heard, rows, 6, 2);
     let mut other = heard;
     show_row(b"row 3, 4 first, pairs", table, &mut heard, rows, 8, 4);
-    show_row(b"row 3, 2 first, pairs", table, &mut other, turned, 0, 4);
+    show_row(
+        b"row 3 after row 2 again, 2 first, pairs",
+        table,
+        &mut other,
+        turned,
+        0,
+        4,
+    );
 }
 
 // From row 3's state the rows 4 to 9 follow one by one, and then row 2 again; in two functions, so that each is proved

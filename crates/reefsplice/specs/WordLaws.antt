@@ -87,9 +87,9 @@ module _ (n : ℤ) (fits : SFits w32 n) where
     left-most = let u = under n fits h in let s : SFits w32 (negsuc (u .0)) = rw (u .1) at fits in
         rw (left-back n fits h) (omega (arith, s .sfits))
 
-    pub complement-below : 4294967295 - natAbs (back (negsuc 0 -ℤ back n)) ≡ twosComplement n
+    pub complement-negative : 4294967295 - natAbs (back (negsuc 0 -ℤ back n)) ≡ twosComplement n
     unfolding twosComplement
-    complement-below = let u = under n fits h in
+    complement-negative = let u = under n fits h in
         ap (λ (z : ℤ). 4294967295 - natAbs z) (left-back n fits h) ∙ sym (ap twosComplement (u .1))
 
 -- all sums

@@ -27,7 +27,7 @@ fn code_of(number: u8, place: usize) -> u64
     number as u64 + 256 * (place as u64)
 }
 
-// The length of the ring is told by the verdict, the counts stand beside it.
+// Writes the check's numbers; the ring's length comes from the verdict.
 fn write_check(bytes: &mut [u8], count: u8, answer: Answer)
     requires { ⌜ length (now bytes) ≡ 32 ⌝ }
     ensures { λ r. ⌜ now (bytes .exit) ≡ numberBytes (count ∷ answer .settled ∷ answer .stuck ∷ answer .stages ∷ answer .longest ∷ []) ⌝ }

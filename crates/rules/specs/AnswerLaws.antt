@@ -150,7 +150,7 @@ pub record Admitted (table heard : List ℕ) (s : List Pair) : Type 0 where
   pub valid : heardFault (pathsOf table) heard ≡ none
   pub listening : firstBadPair (pathsOf table) s ≡ none
 
-if-none : (test : Bool) (n : ℕ) → refusedIf test n ≡ none → test ≡ false
+pub if-none : (test : Bool) (n : ℕ) → refusedIf test n ≡ none → test ≡ false
 unfolding refusedIf
 if-none true n e = absurd (none≢some e refl)
 if-none false n e = refl
@@ -195,6 +195,13 @@ step-admitted table heard p e =
       valid = c .1 .0;
       listening = at-none (firstBadPair (pathsOf table) (p ∷ [])) 14 (c .1 .1);
     }
+
+-- an accepted run says that its schedule is whole and no longer than allowed
+pub run-whole : (table heard s : List ℕ) (sums : List ℤ) → runRefusal table heard s sums ≡ none → scheduleBad s ≡ false
+unfolding runRefusal
+run-whole table heard s sums e =
+    let c = common-none (otherLength 4096 heard || otherLength 64 sums) (refusal table) (heardFault (pathsOf table) heard) _ e in
+    if-none (scheduleBad s) 13 (both-none (refusedIf (scheduleBad s) 13) _ (c .1 .1) .0)
 
 pub run-admitted : (table heard s : List ℕ) (sums : List ℤ)
     → runRefusal table heard s sums ≡ none

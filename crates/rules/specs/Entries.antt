@@ -13,7 +13,8 @@ use Rattle.rules.specs.Machine.{Pair, step, movement}
 use Rattle.rules.specs.Run.{pairsIn, run}
 use Rattle.rules.specs.Answers.{otherLength, unless, checkRefusal, stepRefusal, runRefusal, checkNumbers, runNumbers}
 
--- "A C entry returns 0, or the refusal number plus 256 times the place"
+-- "A C entry returns 0, or the refusal number plus 256 times the place (plus 2^32 times a second number, where a refusal has one)"; none has
+-- one today
 unfoldable pub codeOf : Option Refusal → ℕ
 codeOf none = 0
 codeOf (some r) = r .number + 256 * r .place
@@ -46,7 +47,7 @@ checkRefusalForC t rows ring numbers = refusedIf (otherLength 32 numbers) 1 orEl
 unfoldable pub stepRefusalForC : List ℕ → List ℕ → Pair → List ℕ → Option Refusal
 stepRefusalForC t heard p numbers = refusedIf (otherLength 32 numbers) 1 orElse stepRefusal t heard p
 
--- the run's own sums are then 64 numbers, whatever they were
+-- "For C the run's sums are 256 bytes"; the entry has 64 sums of its own, so the run's test of their length passes
 unfoldable pub runRefusalForC : List ℕ → List ℕ → List ℕ → List ℕ → List ℕ → Option Refusal
 runRefusalForC t heard s sums numbers =
     refusedIf (otherLength 256 sums || otherLength 32 numbers) 1

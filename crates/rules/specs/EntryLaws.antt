@@ -1,21 +1,21 @@
 -- Laws of the entries for C: what their own buffers add to the refusals, and that the numbers can be read back from the bytes.
 use mathlib.Core.Path.{_≡_, refl, sym, ap, _∙_}
-use mathlib.Core.List.{List}
+use mathlib.Core.List.{List, map}
 use mathlib.Core.Option.{Option, none, some}
 use Prim.Native.Nat.{ℕ, suc, _+_, _*_, _/_, _%_, _<_, _≤_}
 use native.Mathlib.Omega.{arith}
 use native.Mathlib.Nat.{div-div-eq-div-mul}
-use lib.ListN.{length, getD, take, drop, replicate}
-use lib.IntN.{pos, negsuc}
-use Rattle.lists.specs.Tests.{by-equal}
+use lib.ListN.{length, getD, take, drop, replicate, List·getD-map}
+use lib.IntN.{ℤ, pos, negsuc}
+use Rattle.lists.specs.Tests.{by-equal, or-none, neither}
 use Rattle.lists.specs.FillLaws.{blocks-length, blocks-at}
 use Rattle.rules.specs.Refusals.{Refusal}
 use Rattle.rules.specs.Machine.{Pair}
-use Rattle.rules.specs.Answers.{checkRefusal, stepRefusal, runRefusal}
-use Rattle.rules.specs.Entries.{codeOf, fourBytes, wordBytes, twosComplement, checkRefusalForC, stepRefusalForC, runRefusalForC}
+use Rattle.rules.specs.Answers.{otherLength, checkRefusal, stepRefusal, runRefusal}
+use Rattle.rules.specs.Entries.{codeOf, fourBytes, wordBytes, twosComplement, sumBytes, checkRefusalForC, stepRefusalForC, runRefusalForC}
 use Rattle.rules.specs.TableLaws.{at}
 use Rattle.rules.specs.RefusalLaws.{Numbered, numbered-at, check-numbered, step-numbered, run-numbered}
-use Rattle.rules.specs.AnswerLaws.{both-none, other-length, same-length, first-other, second-other, both-same, if-decides, if-passes}
+use Rattle.rules.specs.AnswerLaws.{both-none, if-none, other-length, same-length, first-other, second-other, both-same, if-decides, if-passes}
 
 -- a buffer of another length is refused with 1 and place 0, and otherwise the check, the step or the run decides
 
@@ -62,12 +62,6 @@ module _ (n a b c : ℕ) (x : n / 256 ≡ a) (y : a / 256 ≡ b) (z : b / 256 �
   abbrev together : ℕ
   together = n % 256 + 256 * (a % 256) + 65536 * (b % 256) + 16777216 * (c % 256)
 
-  digits-most : together ≤ n
-  digits-most =
-      let third : b % 256 + 256 * (c % 256) ≤ b = omega arith in
-      let second : a % 256 + 256 * b ≡ a = omega arith in
-      omega arith
-
   digits : n < 4294967296 → together ≡ n
   digits h =
       let top : c % 256 ≡ c = omega arith in
@@ -87,11 +81,6 @@ module _ (n : ℕ) where
   unfolding fourBytes
   word-told h = digits n (n / 256) (n / 65536) (n / 16777216) refl twice thrice h
 
-  -- and never more than the number
-  pub word-most : wordIn (fourBytes n) ≤ n
-  unfolding fourBytes
-  word-most = digits-most n (n / 256) (n / 65536) (n / 16777216) refl twice thrice
-
 -- the number at k of numbers end to end
 abbrev pub numberAt : List ℕ → ℕ → ℕ
 numberAt bytes k = wordIn (take 4 (drop (4 * k) bytes))
@@ -109,9 +98,6 @@ module _ (count : ℕ) (ns : List ℕ) where
   pub number-told : (k : ℕ) → k < count → getD ns k 0 < 4294967296 → numberAt (wordBytes count ns) k ≡ getD ns k 0
   number-told k h small = ap wordIn (words-at k h) ∙ word-told (getD ns k 0) small
 
-  pub number-most : (k : ℕ) → k < count → numberAt (wordBytes count ns) k ≤ getD ns k 0
-  number-most k h = omega (arith, ap wordIn (words-at k h), word-most (getD ns k 0))
-
 -- a negative number and its two's complement are 2^32 apart
 pub complement-below : (n : ℕ) → n < 4294967296 → twosComplement (negsuc n) + suc n ≡ 4294967296
 unfolding twosComplement
@@ -121,7 +107,31 @@ pub complement-above : (n : ℕ) → twosComplement (pos n) ≡ n
 unfolding twosComplement
 complement-above n = refl
 
--- what a caller reads off the code
+-- so the sign is told by the highest bit of 32
+pub above-told : (n : ℕ) → n < 2147483648 → twosComplement (pos n) < 2147483648
+unfolding twosComplement
+above-told n h = h
+
+pub below-told : (n : ℕ) → n < 2147483648 → 2147483648 ≤ twosComplement (negsuc n)
+unfolding twosComplement
+below-told n h = omega arith
+
+-- the word of v in the run's sums is its sum
+pub sum-told : (sums : List ℤ) (v : ℕ)
+    → v < 64
+    → twosComplement (getD sums v (pos 0)) < 4294967296
+    → numberAt (sumBytes sums) v ≡ twosComplement (getD sums v (pos 0))
+unfolding sumBytes
+sum-told sums v h small =
+    let same : getD (map twosComplement sums) v 0 ≡ twosComplement (getD sums v (pos 0))
+    = ap (getD (map twosComplement sums) v) (sym (complement-above 0)) ∙ List·getD-map twosComplement sums v (pos 0) in
+    number-told 64 (map twosComplement sums) v h (rw same small) ∙ same
+
+-- what a caller reads off the code: number and place, and 0 exactly where nothing is refused
+
+pub code-none : (o : Option Refusal) → o ≡ none → codeOf o ≡ 0
+unfolding codeOf
+code-none o e = ap codeOf e
 
 module _ (r : Refusal) (n : Numbered r) where
   pub code-number : codeOf (some r) % 256 ≡ r .number
@@ -132,7 +142,6 @@ module _ (r : Refusal) (n : Numbered r) where
   unfolding codeOf
   code-place = omega (arith, n .most)
 
--- 0 says that nothing is refused
 code-zero : (o : Option Refusal) → ((r : Refusal) → o ≡ some r → Numbered r) → codeOf o ≡ 0 → o ≡ none
 unfolding codeOf
 code-zero none f e = refl
@@ -181,3 +190,14 @@ module _ (t heard s sums numbers : List ℕ) where
   pub run-none : runRefusalForC t heard s sums numbers ≡ none → runRefusal t heard s (replicate 64 (pos 0)) ≡ none
   unfolding runRefusalForC
   run-none e = both-none _ _ e .1
+
+-- a run that is accepted with some sums is accepted with any 64
+pub run-any-sums : (t heard s : List ℕ) (sums others : List ℤ)
+    → length others ≡ 64
+    → runRefusal t heard s sums ≡ none
+    → runRefusal t heard s others ≡ none
+unfolding runRefusal
+run-any-sums t heard s sums others long e =
+    let parts = both-none _ _ e in
+    let right = or-none (otherLength 4096 heard) (otherLength 64 sums) (if-none _ 1 (parts .0)) .0 in
+    if-passes _ 1 _ (neither (otherLength 4096 heard) (otherLength 64 others) right (same-length 64 others long)) ∙ parts .1

@@ -5,7 +5,7 @@ use mathlib.Core.List.{List}
 use mathlib.Core.Option.{Option, none, some}
 use Prim.Native.Nat.{ℕ, _<_, _≤_, _/_, _%_}
 use native.Mathlib.Omega.{arith}
-use lib.ListN.{length}
+use lib.ListN.{length, getD}
 use lib.IntN.{ℤ}
 use lib.Dec.{ltb}
 use borrow.Author.Tests.{ltb-false}
@@ -15,12 +15,13 @@ use Rattle.lists.specs.ListLaws.{first-in-under}
 use Rattle.rules.specs.Table.{pathsOf, listens}
 use Rattle.rules.specs.Refusals.{Refusal, refusal}
 use Rattle.rules.specs.Machine.{Pair, heardFault}
-use Rattle.rules.specs.Run.{pairsIn}
-use Rattle.rules.specs.Answers.{scheduleBad, firstBadPair, checkRefusal, stepRefusal, runRefusal}
+use Rattle.rules.specs.Run.{pairsIn, run}
+use Rattle.rules.specs.Answers.{unless, scheduleBad, firstBadPair, checkRefusal, stepRefusal, runRefusal, runNumbers}
 use Rattle.rules.specs.Accepted.{told}
 use Rattle.rules.specs.TableLaws.{at}
 use Rattle.rules.specs.ScheduleLaws.{pairs-length}
-use Rattle.rules.specs.AnswerLaws.{refused-rows, refused-ring, lent-right, step-refused-length, step-refused-table, step-refused-heard, step-refused-pair, step-accepted, run-refused-length, run-refused-sums, run-refused-table, run-refused-heard, run-refused-schedule, run-refused-pair, run-accepted}
+use Rattle.rules.specs.RunLaws.{run-counts, run-steps}
+use Rattle.rules.specs.AnswerLaws.{run-whole, refused-rows, refused-ring, lent-right, step-refused-length, step-refused-table, step-refused-heard, step-refused-pair, step-accepted, run-refused-length, run-refused-sums, run-refused-table, run-refused-heard, run-refused-schedule, run-refused-pair, run-accepted}
 
 -- What a refusal of the check, the step or the run tells: a number of the page, and a place that is a record, an offset or a pair.
 pub record Numbered (r : Refusal) : Type 0 where
@@ -103,3 +104,12 @@ module _ (t heard s : List ℕ) (sums : List ℤ) (r : Refusal) (e : runRefusal 
       (λ q a. numbered-table _ r e t q (run-refused-table t heard s sums n m q a) a))
       (λ m. run-at 1 0 (run-refused-sums t heard s sums m) (omega arith) (omega arith) (omega arith)))
       (λ n. run-at 1 0 (run-refused-length t heard s sums n) (omega arith) (omega arith) (omega arith))
+
+-- an accepted run answers no more rounds than a schedule has pairs
+pub rounds-few : (t heard s : List ℕ) (sums : List ℤ) → runRefusal t heard s sums ≡ none → getD (runNumbers t heard s sums) 4 0 ≤ 16384
+unfolding runNumbers unless
+rounds-few t heard s sums e =
+    let paths = pathsOf t in
+    let most : run paths heard (pairsIn s) .rounds ≤ 16384
+    = omega (arith, run-counts paths heard (pairsIn s) .closings, run-steps paths heard (pairsIn s), pairs-length s, short-schedule s (run-whole t heard s sums e)) in
+    rw e most

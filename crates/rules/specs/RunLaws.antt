@@ -2,7 +2,7 @@
 use mathlib.Core.Path.{_≡_, refl, sym, ap, _∙_}
 use mathlib.Core.Logic.{_≢_}
 use mathlib.Core.Bool.{Bool, true, false, not}
-use mathlib.Core.List.{List, _++_}
+use mathlib.Core.List.{List, _∷_, _++_}
 use mathlib.Core.Option.{none}
 use Prim.Native.Nat.{ℕ, zero, suc, _+_, _<_, _≤_}
 use native.Mathlib.Omega.{arith}
@@ -18,8 +18,8 @@ use Rattle.lists.specs.FoldLaws.{fold-append, fold-keeps, fold-keeps-of, fold-p
 use Rattle.lists.specs.Tests.{by-test, by-equal, by-less}
 use Rattle.lists.specs.NumberLaws.{telescope}
 use Rattle.rules.specs.Table.{Path, listens}
-use Rattle.rules.specs.Machine.{Pair, heardFault, choice, step, standing, movement}
-use Rattle.rules.specs.Run.{Tally, isUp, isDown, more, listeningOffsets, begun, activated, run}
+use Rattle.rules.specs.Machine.{Pair, offsetOf, heardFault, choice, step, standing, movement}
+use Rattle.rules.specs.Run.{Tally, isUp, isDown, more, closes, listeningOffsets, begun, activated, run}
 use Rattle.rules.specs.Answers.{firstBadPair}
 use Rattle.rules.specs.Shape.{Shaped}
 use Rattle.rules.specs.MachineLaws.{listening, step-length, step-valid, standing-kept}
@@ -42,10 +42,17 @@ more-both (pos zero) a b = omega arith
 more-both (pos (suc n)) a b = omega arith
 more-both (negsuc n) a b = omega arith
 
+-- a test adds one at most
+more-most : (b : Bool) (n : ℕ) → more b n ≤ suc n
+unfolding more
+more-most true n = omega arith
+more-most false n = omega arith
+
 -- what the counts of a run keep to
 pub record Counted (y : Tally) : Type 0 where
   pub moves : y .ups + y .downs ≤ y .steps
   pub change : y .lastChange ≤ y .steps
+  pub closings : y .rounds ≤ y .steps
 
 -- one more where the test holds, on top of what there was before
 more-on : (b : Bool) (a y z : ℕ) → y ≡ a + z → more b y ≡ a + more b z
@@ -124,6 +131,7 @@ module _ (paths : ℕ → List Path) where
             change = by-test (same (choice paths (y .heard) (p .listener)) (choice paths (step paths (y .heard) p) (p .listener)))
                 (λ q. rw (q, activated) (omega (arith, c .change)))
                 (λ q. rw (q, activated) (omega arith));
+            closings = omega (arith, more-most (closes pairs (offsetOf p ∷ y .since)) (y .rounds), c .closings);
           }
 
   -- the run's heard state is that of its steps alone
@@ -136,10 +144,10 @@ module _ (paths : ℕ → List Path) where
   unfolding run begun
   run-steps heard s = omega (arith, tally-steps (listeningOffsets paths) (begun heard) s)
 
-  -- the run's ups and downs are at most its steps, and so is the last change
+  -- the run's ups and downs are at most its steps, and so are the last change and the rounds
   pub run-counts : (heard : List ℕ) (s : List Pair) → Counted (run paths heard s)
   unfolding run begun
-  run-counts heard s = tally-counts (listeningOffsets paths) (begun heard) s (record { moves = omega arith; change = omega arith })
+  run-counts heard s = tally-counts (listeningOffsets paths) (begun heard) s (record { moves = omega arith; change = omega arith; closings = omega arith })
 
   -- a run keeps the length of the heard state
   pub run-length : (heard : List ℕ) (s : List Pair) → length (run paths heard s .heard) ≡ length heard

@@ -148,7 +148,7 @@ disagreeOneFirst =
     ∷ record { pairs = 1 ∷ 2 ∷ 2 ∷ 1 ∷ []; selected = disagreeSecond }
     ∷ []
 
--- BAD GADGET, three rounds of all its pairs
+-- Rows that are ours, and not 001's: BAD GADGET, three rounds of all its pairs
 unfoldable pub badGadgetRound : List Path → Row
 badGadgetRound selected = record { pairs = 1 ∷ 0 ∷ 2 ∷ 0 ∷ 3 ∷ 0 ∷ 1 ∷ 3 ∷ 2 ∷ 1 ∷ 3 ∷ 2 ∷ []; selected = selected }
 
@@ -159,14 +159,14 @@ badGadgetRounds =
     ∷ badGadgetRound ((1 ∷ 3 ∷ 0 ∷ []) ∷ (2 ∷ 0 ∷ []) ∷ (3 ∷ 2 ∷ 0 ∷ []) ∷ [])
     ∷ []
 
--- row 3's pairs of Table 4 one after the other, 4 or 2 first
+-- ours: row 3's pairs of Table 4 one after the other, 4 or 2 first
 unfoldable pub edgeFourFirst : Row
 edgeFourFirst = record { pairs = 4 ∷ 2 ∷ 2 ∷ 4 ∷ []; selected = (1 ∷ 0 ∷ []) ∷ (2 ∷ 3 ∷ 0 ∷ []) ∷ (3 ∷ 0 ∷ []) ∷ (4 ∷ 2 ∷ 3 ∷ 0 ∷ []) ∷ [] }
 
 unfoldable pub edgeTwoFirst : Row
 edgeTwoFirst = record { pairs = 2 ∷ 4 ∷ 4 ∷ 2 ∷ []; selected = (1 ∷ 0 ∷ []) ∷ (2 ∷ 4 ∷ 0 ∷ []) ∷ (3 ∷ 0 ∷ []) ∷ (4 ∷ 0 ∷ []) ∷ [] }
 
--- BLEEDIN-EDGE, a round of all its pairs from zeros
+-- ours: BLEEDIN-EDGE, a round of all its pairs from zeros
 unfoldable pub bleedinRound : Row
 bleedinRound =
     record {

@@ -29,7 +29,7 @@ use Rattle.theorems.specs.PublishedLaws.{Stores, otherStored, stored-res
 use Rattle.theorems.specs.Published.{disagree, badGadget, bleedinEdge, diSafeGree, disagreeBytes, badGadgetBytes, bleedinEdgeBytes, diSafeGreeBytes, assigned, routersPaths, disagreeFirst, disagreeSecond, bleedinStable, diSafeGreeStable, table2, table4Begin, table4Moment, table4End, table4, disagreeTwoFirst, disagreeOneFirst, badGadgetRound, badGadgetRounds, edgeFourFirst, edgeTwoFirst, bleedinRound, diSafeGreeRows, atOnce, oneByOne, afterRows, selectedIn, selectedAfter, AtOnce, OneByOne, nothingHeard, directHeard, rowThree, rowNine}
 
 -- What the first check says of each: a line is a router, its stage (255 for stuck), and its rank and path; then stages,
--- longest and ring. Of DI-SAFE-GREE section 4 says: "At the first iteration, vertex 1 enters the stable set .. At the
+-- longest and ring. 001 has the first check of DI-SAFE-GREE alone, in section 4: "At the first iteration, vertex 1 enters the stable set .. At the
 -- second iteration, the algorithm forcedly stops."
 unfoldable pub checks : List Example
 checks =
@@ -51,7 +51,7 @@ checks =
     }
     ∷ []
 
-pub checked-as-published : map (λ e. outcome (e .input)) checks ≡ map (λ e. e .expected) checks
+pub published-checked : map (λ e. outcome (e .input)) checks ≡ map (λ e. e .expected) checks
 unfolding refusedIf refusedAt _orElse_ outside firstFrom anyBelow
     countBelow thoseBelow anyIn firstIn elem same maxBelow tabulate blocks padded recordAt records rankOf
     hopsOf pathOf ownerOf owned pathsBelow pathsOf present longest nextHop rest first listens listensAt hopsBad vertexBad
@@ -60,7 +60,7 @@ unfolding refusedIf refusedAt _orElse_ outside firstFrom anyBelow
     enters quiet stageCount stageOf stuckIn follows fromVertex beforeVertex closedPart lowestOf turned ringFrom
     placeIn rankIn rowBytes row report rowAt vertices pathShown recordBytes blockBytes tableBytes lineOf checkedOf outcome
     disagree badGadget bleedinEdge diSafeGree checks
-checked-as-published = refl
+published-checked = refl
 
 -- What is found by computing.
 pub record Computed : Type 0 where

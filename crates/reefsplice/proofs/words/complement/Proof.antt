@@ -2,7 +2,7 @@
 -- Assumes nothing.
 use mir.Syntax.{w32}
 use Rattle.lists.specs.SignedLaws.{size-plain, left-fits, left-plain}
-use Rattle.reefsplice.specs.WordLaws.{complement-plain, left-most, complement-below}
+use Rattle.reefsplice.specs.WordLaws.{complement-plain, left-most, complement-negative}
 use Rattle.reefsplice.proofs.words.complement.Statement.{statement}
 use Rattle.reefsplice.proofs.words.complement.Tie as tie
 
@@ -22,7 +22,7 @@ sub-result-2 : tie.Need-sub-result-2
 sub-result-2 c = left-most _ (c .before .fits .n) (c .if1 .left)
 
 returns-2 : tie.Need-returns-2
-returns-2 c = complement-below _ (c .before .fits .n) (c .if1 .left)
+returns-2 c = complement-negative _ (c .before .fits .n) (c .if1 .left)
 
 pub complement-spec : {M : Type 1} → statement M
 complement-spec = tie.close (tie.spec cast-result returns sub-result cast-result-2 sub-result-2 returns-2)
