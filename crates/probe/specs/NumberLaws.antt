@@ -1,4 +1,4 @@
--- The numbers from the reader's answers: a refusal's code fits, and tells that there is a refusal.
+-- The numbers from the reader's answers: a refusal's code, which fits; marks and slots.
 use mathlib.Core.Path.{_≡_, refl, sym, ap, _∙_}
 use mathlib.Core.Bool.{Bool, true, false, cond}
 use mathlib.Core.List.{List, []}
@@ -38,18 +38,6 @@ module _ (n k : ℕ) where
 
   pub refused-small : (t : List ℕ) → Refused n k ≡ readingOf (refusal t) → k < 1008
   refused-small t e = refused-place t (refusal t) refl e
-
-code-of : (r : Refusal) → codeOf (some r) ≡ r .number + 256 * r .place
-unfolding codeOf
-code-of r = refl
-
--- the code is 0 only where the table is accepted
-pub code-tells : (t : List ℕ) → codeOf (refusal t) ≡ 0 → refusal t ≡ none
-code-tells t e = go (refusal t) refl
-  where
-    go : (o : Option Refusal) → refusal t ≡ o → refusal t ≡ none
-    go none q = q
-    go (some r) q = absurd (let z : r .number + 256 * r .place ≡ 0 = sym (code-of r) ∙ ap codeOf (sym q) ∙ e in omega (arith, told t r q .least))
 
 -- a mark read from the marks of the numbers below n, and past their end
 module _ (test : ℕ → Bool) (n i : ℕ) where

@@ -20,7 +20,7 @@ use Rattle.rules.specs.Entries.{fourBytes, wordBytes, numberBytes, twosCompleme
 use Rattle.rules.specs.EntryLaws.{four-length}
 
 -- four stores fill four bytes
-pub four-written : (l : List ℕ) (a b c d : ℕ) → length l ≡ 4 → set (set (set (set l 0 a) 1 b) 2 c) 3 d ≡ a ∷ b ∷ c ∷ d ∷ []
+four-written : (l : List ℕ) (a b c d : ℕ) → length l ≡ 4 → set (set (set (set l 0 a) 1 b) 2 c) 3 d ≡ a ∷ b ∷ c ∷ d ∷ []
 four-written [] a b c d e = absurd (omega arith)
 four-written (w ∷ []) a b c d e = absurd (omega arith)
 four-written (w ∷ x ∷ []) a b c d e = absurd (omega arith)

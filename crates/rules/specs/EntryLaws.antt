@@ -148,7 +148,7 @@ code-zero none f e = refl
 code-zero (some r) f e = absurd (omega (arith, f r refl .least))
 
 module _ (t rows ring numbers : List ℕ) where
-  pub check-for-c : (r : Refusal) → checkRefusalForC t rows ring numbers ≡ some r → Numbered r
+  check-for-c : (r : Refusal) → checkRefusalForC t rows ring numbers ≡ some r → Numbered r
   check-for-c r e =
       by-equal (length numbers) 32
       (λ n. check-numbered t rows ring r (sym (check-same t rows ring numbers n) ∙ e))
@@ -162,7 +162,7 @@ module _ (t rows ring numbers : List ℕ) where
   check-none e = both-none _ _ e .1
 
 module _ (t heard : List ℕ) (p : Pair) (numbers : List ℕ) where
-  pub step-for-c : (r : Refusal) → stepRefusalForC t heard p numbers ≡ some r → Numbered r
+  step-for-c : (r : Refusal) → stepRefusalForC t heard p numbers ≡ some r → Numbered r
   step-for-c r e =
       by-equal (length numbers) 32
       (λ n. step-numbered t heard p r (sym (step-same t heard p numbers n) ∙ e))
@@ -176,7 +176,7 @@ module _ (t heard : List ℕ) (p : Pair) (numbers : List ℕ) where
   step-none e = both-none _ _ e .1
 
 module _ (t heard s sums numbers : List ℕ) where
-  pub run-for-c : (r : Refusal) → runRefusalForC t heard s sums numbers ≡ some r → Numbered r
+  run-for-c : (r : Refusal) → runRefusalForC t heard s sums numbers ≡ some r → Numbered r
   run-for-c r e =
       by-equal (length sums) 256
       (λ m. by-equal (length numbers) 32
