@@ -14,8 +14,8 @@ use Rattle.lists.specs.FillLaws.{tabulate-at, padded-whole}
 use Rattle.rules.specs.Table.{Path, records, pathAt, ownerAt, owned, pathsOf, pathsBelow, slotsOf, nextHop}
 use Rattle.rules.specs.Refusals.{refusal}
 use Rattle.rules.specs.Greedy.{isSettled, compatible, judged, best}
-use Rattle.rules.specs.ShapeLaws.{path-length}
-use Rattle.rules.specs.Blocks.{here, few-records, no-path, owned-length, owned-at, owned-few, owned-below}
+use Rattle.laws.specs.ShapeLaws.{path-length}
+use Rattle.laws.specs.Blocks.{here, few-records, no-path, owned-length, owned-at, owned-few, owned-below}
 use Rattle.judge.specs.Standing.{isIn, settledBy, firstRecord, bestRecord, entersWith}
 use Rattle.judge.specs.StandingLaws.{in-settled, out-unsettled}
 use Rattle.judge.specs.SlotLaws.{Filled, record-padded, record-among, record-path}

@@ -18,18 +18,18 @@ use Rattle.rules.specs.Table.{Path, records, rankOf, pathAt, rankAt, recordAt, 
 use Rattle.rules.specs.Refusals.{refusal}
 use Rattle.rules.specs.Greedy.{Settled, isSettled, best, stageCount, stageOf, stuckIn, follows, ringFrom}
 use Rattle.rules.specs.Report.{rowBytes, rankIn, placeIn, row, report}
-use Rattle.rules.specs.ShapeLaws.{shaped, path-length, names}
-use Rattle.rules.specs.TableLaws.{record-past, path-owner}
-use Rattle.rules.specs.Sanity.{rank-byte}
-use Rattle.rules.specs.PathLaws.{place-absent, place-nil}
-use Rattle.rules.specs.GreedyLaws.{settled-origin, settled-present}
-use Rattle.rules.specs.RingLaws.{final, isStuck, onward, stuck-present, stuck-unsettled, stuck-next}
+use Rattle.laws.specs.ShapeLaws.{shaped, path-length, names}
+use Rattle.laws.specs.TableLaws.{record-past, path-owner}
+use Rattle.laws.specs.Sanity.{rank-byte}
+use Rattle.laws.specs.PathLaws.{place-absent, place-nil}
+use Rattle.laws.specs.GreedyLaws.{settled-origin, settled-present}
+use Rattle.laws.specs.RingLaws.{final, isStuck, onward, stuck-present, stuck-unsettled, stuck-next}
 use Rattle.judge.specs.Standing.{isJudged}
 use Rattle.judge.specs.StandingLaws.{holds-record, settled-holds}
 use Rattle.ring.specs.Ring.{ringIn}
 use Rattle.ring.specs.RingLaws.{ring-agrees}
 use Rattle.checker.specs.Settling.{Own, Ended}
-use Rattle.rules.specs.Blocks.{few-records, no-path}
+use Rattle.laws.specs.Blocks.{few-records, no-path}
 use Rattle.checker.specs.MarkLaws.{mark-here, mark-absent, mark-waits, mark-settled, stage-small}
 use Rattle.checker.specs.StartLaws.{stage-origin}
 use Rattle.checker.specs.Rows.{shownRow, isBetween, countBetween}

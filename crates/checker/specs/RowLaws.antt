@@ -16,7 +16,7 @@ use Rattle.lists.specs.RenewLaws.{block-first, block-length, block-more}
 use Rattle.lists.specs.Tests.{by-equal}
 use Rattle.rules.specs.Table.{recordAt, hopsOf, pathOf, rankAt, pathAt}
 use Rattle.rules.specs.Report.{rowBytes}
-use Rattle.rules.specs.ReportLaws.{row-bytes-length}
+use Rattle.laws.specs.ReportLaws.{row-bytes-length}
 use Rattle.checker.specs.Rows.{isBetween, shownRow}
 
 -- the count that has come to v; b says whether the mark there is outside

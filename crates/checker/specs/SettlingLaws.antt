@@ -12,7 +12,7 @@ use Rattle.lists.specs.FillLaws.{tabulate-at, tabulate-ext}
 use Rattle.rules.specs.Table.{records, pathsOf, present, slotsOf}
 use Rattle.rules.specs.Refusals.{refusal}
 use Rattle.rules.specs.Greedy.{settled, stageCount}
-use Rattle.rules.specs.GreedyLaws.{settled-end}
+use Rattle.laws.specs.GreedyLaws.{settled-end}
 use Rattle.lists.specs.Search.{same}
 use Rattle.lists.specs.ListLaws.{same-eq, differs}
 use Rattle.judge.specs.Standing.{shownAfter, markAfter}

@@ -14,8 +14,8 @@ use Rattle.lists.specs.FillLaws.{tabulate-length, tabulate-at, tabulate-ext}
 use Rattle.rules.specs.Table.{Path, records, pathAt, pathsOf, present, slotsOf}
 use Rattle.rules.specs.Refusals.{refusal}
 use Rattle.rules.specs.Greedy.{Settled, isSettled, judged, best, settled, stageCount, enters, quiet}
-use Rattle.rules.specs.ShapeLaws.{shaped}
-use Rattle.rules.specs.GreedyLaws.{is-none, is-some, judged-path, settled-suc, settled-out, settled-stays, settled-origin, settled-present, stage-absent, stage-judges, stages-most, stages-busy, stages-quiet, quiet-stage, busy-some, enters-counted, stage-entered}
+use Rattle.laws.specs.ShapeLaws.{shaped}
+use Rattle.laws.specs.GreedyLaws.{is-none, is-some, judged-path, settled-suc, settled-out, settled-stays, settled-origin, settled-present, stage-absent, stage-judges, stages-most, stages-busy, stages-quiet, quiet-stage, busy-some, enters-counted, stage-entered}
 use Rattle.lists.specs.Search.{same}
 use Rattle.judge.specs.Standing.{isIn, heldPath, settledBy, bestRecord, entersWith, isJudged, shownAfter, markAfter}
 use Rattle.judge.specs.StandingLaws.{holds-record, holds-same, in-settled, out-unsettled, settled-holds}

@@ -14,8 +14,8 @@ use Rattle.lists.specs.FillLaws.{tabulate-length, tabulate-at, tabulate-ext, al
 use Rattle.rules.specs.Table.{pathsOf, present}
 use Rattle.rules.specs.Refusals.{refusal}
 use Rattle.rules.specs.Greedy.{isSettled, atStart, settled, stageOf}
-use Rattle.rules.specs.ShapeLaws.{shaped}
-use Rattle.rules.specs.GreedyLaws.{settled-zero, settled-out, settled-origin}
+use Rattle.laws.specs.ShapeLaws.{shaped}
+use Rattle.laws.specs.GreedyLaws.{settled-zero, settled-out, settled-origin}
 use Rattle.lists.specs.SearchLaws.{first-hit}
 use Rattle.judge.specs.Standing.{isIn, settledBy}
 use Rattle.judge.specs.StandingLaws.{holds-origin, in-settled, out-unsettled}

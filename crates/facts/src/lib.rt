@@ -5,7 +5,7 @@ ghost use lib.ListN.{length};
 ghost use Rattle.lists.specs.Fill.{tabulate};
 ghost use Rattle.rules.specs.Table.{records, longest, present, pathsOf, slotsOf, listensAt};
 ghost use Rattle.rules.specs.Machine.{speaks};
-ghost use Rattle.rules.specs.PassLaws.{pairMarked};
+ghost use Rattle.laws.specs.PassLaws.{pairMarked};
 use parts::at_most;
 use parts::larger;
 use parts::mark;

@@ -8,7 +8,7 @@ use native.Mathlib.Omega.{arith}
 use lib.ListN.{length, getD, replicate}
 use Rattle.lists.specs.Tests.{by-test}
 use Rattle.rules.specs.Table.{Path, pathAt, first}
-use Rattle.rules.specs.PathLaws.{first-of-none, first-head, first-tail}
+use Rattle.laws.specs.PathLaws.{first-of-none, first-head, first-tail}
 use Rattle.judge.specs.Standing.{firstRecord}
 use Rattle.judge.specs.StandingLaws.{record-nil, record-empty, record-pass, record-fail}
 

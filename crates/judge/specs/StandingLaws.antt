@@ -18,7 +18,7 @@ use Rattle.lists.specs.Fill.{tabulate, renewed}
 use Rattle.lists.specs.RenewLaws.{renewed-none, renewed-keep, renewed-store, renewed-all}
 use Rattle.rules.specs.Table.{Path, pathAt, nextHop}
 use Rattle.rules.specs.Greedy.{Settled, compatible}
-use Rattle.rules.specs.GreedyLaws.{compatible-waiting, compatible-settled}
+use Rattle.laws.specs.GreedyLaws.{compatible-waiting, compatible-settled}
 use Rattle.judge.specs.Standing.{isIn, heldPath, settledBy, firstRecord, bestRecord, entersWith, isJudged, shownAfter, markAfter}
 
 -- past the end of the marks nobody is settled or judged

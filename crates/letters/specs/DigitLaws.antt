@@ -8,7 +8,7 @@ use lib.ListN.{length, take, drop, set, length-set}
 use lib.Seq.{drop-length, drop-cons, drop-set-lt, getD-set-same}
 use Rattle.lists.specs.Parts.{part-to-end}
 use Rattle.rules.specs.Text.{digitsIn}
-use Rattle.rules.specs.TextLaws.{digits-none, digits-one, digits-more}
+use Rattle.laws.specs.TextLaws.{digits-none, digits-one, digits-more}
 use Rattle.letters.specs.Digits.{Written}
 
 -- what is left to write before the place at, and what stands from there on, are the digits

@@ -21,9 +21,9 @@ use Rattle.rules.specs.Table.{Path, records, pathAt, owned, pathsOf, pathsBelow
 use Rattle.rules.specs.Refusals.{refusal}
 use Rattle.rules.specs.Report.{placeIn}
 use Rattle.rules.specs.Machine.{byteFor}
-use Rattle.rules.specs.MachineLaws.{speaks-destination, speaks-other}
-use Rattle.rules.specs.ShapeLaws.{shaped}
-use Rattle.rules.specs.Blocks.{few-records, owned-few, owned-below}
+use Rattle.laws.specs.MachineLaws.{speaks-destination, speaks-other}
+use Rattle.laws.specs.ShapeLaws.{shaped}
+use Rattle.laws.specs.Blocks.{few-records, owned-few, owned-below}
 use Rattle.machine.specs.Asked.{filled, slotPaths, Slots, SlotRow, askedFor, askedRow, AskedTo}
 
 -- the records of a row

@@ -14,10 +14,10 @@ use Rattle.rules.specs.Refusals.{refusal}
 use Rattle.rules.specs.Stable.{extends, bestGiven}
 use Rattle.rules.specs.Report.{rankIn}
 use Rattle.rules.specs.Machine.{byteFor, lastHeard, choice}
-use Rattle.rules.specs.MachineLaws.{speaks-destination, speaks-other, choice-destination, choice-other, rank-most, rank-none}
-use Rattle.rules.specs.PathLaws.{place-distinct, place-head}
-use Rattle.rules.specs.Shape.{Shaped}
-use Rattle.rules.specs.ShapeLaws.{shaped}
+use Rattle.laws.specs.MachineLaws.{speaks-destination, speaks-other, choice-destination, choice-other, rank-most, rank-none}
+use Rattle.laws.specs.PathLaws.{place-distinct, place-head}
+use Rattle.laws.specs.Shape.{Shaped}
+use Rattle.laws.specs.ShapeLaws.{shaped}
 use Rattle.machine.specs.Asked.{slotPaths, SlotRow, askedFor, askedRow, hearsByte}
 use Rattle.machine.specs.Scan.{Scanned}
 use Rattle.machine.specs.ScanLaws.{scanned-empty, scanned-end, scanned-next, first-scanned, first-nowhere}

@@ -10,7 +10,7 @@ use borrow.Author.Tests.{eq-eqb, ne-eqb}
 use Rattle.lists.specs.NumberLaws.{difference-above, difference-below}
 use Rattle.lists.specs.Tests.{by-less}
 use Rattle.rules.specs.Machine.{standingOf}
-use Rattle.rules.specs.MachineLaws.{standing-of-tells}
+use Rattle.laws.specs.MachineLaws.{standing-of-tells}
 use Rattle.rules.specs.Run.{more, isUp, isDown}
 use Rattle.machine.specs.Counts.{moved, lastOf}
 

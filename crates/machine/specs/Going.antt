@@ -11,7 +11,7 @@ use Rattle.rules.specs.Table.{pathsOf, listensAt}
 use Rattle.rules.specs.Refusals.{refusal}
 use Rattle.rules.specs.Machine.{choiceBytes}
 use Rattle.rules.specs.Run.{Tally, pairsIn, begun, run}
-use Rattle.rules.specs.RunLaws.{Telescoped}
+use Rattle.laws.specs.RunLaws.{Telescoped}
 use Rattle.rules.specs.Answers.{firstBadPair}
 use Rattle.machine.specs.Asked.{Slots, askedRow}
 use Rattle.machine.specs.Rounds.{Stamped}

@@ -18,10 +18,10 @@ use Rattle.lists.specs.ListLaws.{same-refl, differ}
 use Rattle.lists.specs.NumberLaws.{difference-most}
 use Rattle.rules.specs.Table.{Path, pathsOf, listens, listensAt}
 use Rattle.rules.specs.Machine.{Pair, offsetOf, byteFor, pathFor, choice, choiceBytes, step, standing, movement, standingOf}
-use Rattle.rules.specs.MachineLaws.{byte-tells, choice-spoken, choice-kept, step-length, standing-most, offset-listens}
+use Rattle.laws.specs.MachineLaws.{byte-tells, choice-spoken, choice-kept, step-length, standing-most, offset-listens}
 use Rattle.rules.specs.Run.{Tally, pairsIn, isUp, isDown, more, listeningOffsets, closes, begun, activated, run}
-use Rattle.rules.specs.RunLaws.{Telescoped, telescoped-none, telescoped-on, all-listen, run-steps, more-both}
-use Rattle.rules.specs.ScheduleLaws.{pairs-length, pairs-at}
+use Rattle.laws.specs.RunLaws.{Telescoped, telescoped-none, telescoped-on, all-listen, run-steps, more-both}
+use Rattle.laws.specs.ScheduleLaws.{pairs-length, pairs-at}
 use Rattle.answer.specs.declared.RunAnswer.{RunAnswer}
 use Rattle.answer.specs.declared.RunVerdict.the-variants.{Accepted}
 use Rattle.machine.specs.Moves.{Worked}

@@ -16,9 +16,9 @@ use Rattle.rules.specs.Table.{Path, nextHop, rest}
 use Rattle.rules.specs.Stable.{extends}
 use Rattle.rules.specs.Report.{placeIn}
 use Rattle.rules.specs.Machine.{speaks, byteFor, pathFor, lastHeard}
-use Rattle.rules.specs.MachineLaws.{speaks-destination, speaks-other, heard-in}
-use Rattle.rules.specs.PathLaws.{place-at, place-distinct}
-use Rattle.rules.specs.Shape.{Shaped}
+use Rattle.laws.specs.MachineLaws.{speaks-destination, speaks-other, heard-in}
+use Rattle.laws.specs.PathLaws.{place-at, place-distinct}
+use Rattle.laws.specs.Shape.{Shaped}
 use Rattle.machine.specs.Asked.{askedFor, hearsByte}
 
 pub hears-none : (a b : ℕ) → a ≡ 0 → hearsByte a b ≡ false

@@ -12,7 +12,7 @@ use mir.Syntax.{w32}
 use Rattle.lists.specs.NumberLaws.{difference-most}
 use Rattle.rules.specs.Table.{Path}
 use Rattle.rules.specs.Machine.{offsetOf, step, standingOf}
-use Rattle.rules.specs.MachineLaws.{standing-of-most}
+use Rattle.laws.specs.MachineLaws.{standing-of-most}
 use Rattle.machine.specs.Moves.{Says}
 
 -- a number of the size of a standing fits 32 bits

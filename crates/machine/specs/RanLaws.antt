@@ -19,8 +19,8 @@ use Rattle.rules.specs.Refusals.{refusal}
 use Rattle.rules.specs.Machine.{speaks, heardFault}
 use Rattle.rules.specs.Run.{pairsIn, run}
 use Rattle.rules.specs.Answers.{scheduleBad, firstBadPair, unless, runRefusal, runNumbers, heardAfterRun, sumsAfterRun}
-use Rattle.rules.specs.AnswerLaws.{run-refused-heard, run-refused-schedule, run-refused-pair, run-accepted}
-use Rattle.rules.specs.ShapeLaws.{shaped}
+use Rattle.laws.specs.AnswerLaws.{run-refused-heard, run-refused-schedule, run-refused-pair, run-accepted}
+use Rattle.laws.specs.ShapeLaws.{shaped}
 use Rattle.answer.specs.declared.RunAnswer.{RunAnswer}
 use Rattle.answer.specs.Moves.{runRefusalIn, runNumbersIn}
 use Rattle.state.specs.Judged.{badOffset, badPair}

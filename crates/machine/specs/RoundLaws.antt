@@ -18,7 +18,7 @@ use Rattle.lists.specs.ListLaws.{elem-nil, elem-cons}
 use Rattle.lists.specs.FillLaws.{tabulate-at}
 use Rattle.rules.specs.Table.{Path, listensAt}
 use Rattle.rules.specs.Run.{more, listeningOffsets, closes}
-use Rattle.rules.specs.RoundLaws.{closes-count}
+use Rattle.laws.specs.RoundLaws.{closes-count}
 use Rattle.machine.specs.Rounds.{markCount, newlyAt, missingAfter, leftAfter, missingFrom, Stamped}
 
 -- the count of the marks, at the start and where it has come to k

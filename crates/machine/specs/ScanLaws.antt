@@ -12,7 +12,7 @@ use Rattle.lists.specs.Tests.{by-equal}
 use Rattle.lists.specs.ListLaws.{same-eq, differs}
 use Rattle.rules.specs.Table.{Path, pathAt, first}
 use Rattle.rules.specs.Report.{placeIn}
-use Rattle.rules.specs.PathLaws.{first-at, first-missing, place-first, place-absent}
+use Rattle.laws.specs.PathLaws.{first-at, first-missing, place-first, place-absent}
 use Rattle.machine.specs.Asked.{slotPaths}
 use Rattle.machine.specs.AskedLaws.{paths-stop, paths-on, paths-most}
 use Rattle.machine.specs.Scan.{Scanned}

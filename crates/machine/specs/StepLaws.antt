@@ -15,11 +15,11 @@ use Rattle.rules.specs.Table.{Path, pathsOf, present, listens, listensAt}
 use Rattle.rules.specs.Refusals.{Refusal, refusal}
 use Rattle.rules.specs.Report.{rankIn}
 use Rattle.rules.specs.Machine.{Pair, speaks, byteFor, heardFault, choice, choiceBytes, step, standingOf, standing, movement}
-use Rattle.rules.specs.MachineLaws.{listening, speaks-other, rank-most, movement-most}
+use Rattle.laws.specs.MachineLaws.{listening, speaks-other, rank-most, movement-most}
 use Rattle.rules.specs.Answers.{unless, choicesIn, stepRefusal, stepMovement, heardAfterStep}
-use Rattle.rules.specs.AnswerLaws.{step-refused-heard, step-refused-pair, step-accepted}
-use Rattle.rules.specs.Shape.{Shaped}
-use Rattle.rules.specs.ShapeLaws.{shaped}
+use Rattle.laws.specs.AnswerLaws.{step-refused-heard, step-refused-pair, step-accepted}
+use Rattle.laws.specs.Shape.{Shaped}
+use Rattle.laws.specs.ShapeLaws.{shaped}
 use Rattle.answer.specs.declared.StepAnswer.the-variants.{Moved, Refused}
 use Rattle.answer.specs.Moves.{stepRefusalIn, movementIn}
 use Rattle.state.specs.Judged.{badOffset, marksPair}

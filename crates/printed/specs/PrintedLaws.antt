@@ -5,7 +5,7 @@ use Prim.Native.Nat.{ℕ, _≤_, min}
 use native.Mathlib.Omega.{arith}
 use lib.ListN.{length, take, replicate, length-replicate}
 use Rattle.rules.specs.Text.{textOf, checkText}
-use Rattle.rules.specs.TextLaws.{check-text, check-text-fits}
+use Rattle.laws.specs.TextLaws.{check-text, check-text-fits}
 use Rattle.answer.specs.declared.Answer.{Answer}
 use Rattle.answer.specs.Meaning.{meaning, numbers}
 use Rattle.letters.specs.Lay.{Laid, overlaid}

@@ -13,7 +13,7 @@ use Rattle.lists.specs.ListLaws.{getD-within}
 use Rattle.lists.specs.FillLaws.{tabulate-length, tabulate-at, padded-length}
 use Rattle.rules.specs.Table.{slotsOf}
 use Rattle.rules.specs.Refusals.{Refusal, refusal}
-use Rattle.rules.specs.Accepted.{told}
+use Rattle.laws.specs.Accepted.{told}
 use Rattle.reader.specs.Reading.{readingOf}
 use Rattle.reader.specs.declared.Reading.the-variants.{Accepted, Refused}
 use Rattle.rules.specs.Entries.{codeOf}

@@ -17,11 +17,11 @@ use Rattle.rules.specs.Run.{pairsIn}
 use Rattle.rules.specs.Refusals.{refusal}
 use Rattle.rules.specs.Answers.{checkRefusal, checkNumbers, unless, runNumbers, heardAfterRun, heardAfterStep}
 use Rattle.rules.specs.Entries.{wordBytes, numberBytes, checkRefusalForC, rowsForC, ringForC, checkNumbersForC, heardStepForC, stepNumbersForC, heardRunForC, sumsForC, runNumbersForC}
-use Rattle.rules.specs.EntryLaws.{numberAt, number-told, code-none, check-same, check-zero, check-none, step-same, step-zero, step-none, run-same, run-zero, run-none, run-any-sums}
-use Rattle.rules.specs.AnswerLaws.{lent-right, check-admitted}
-use Rattle.rules.specs.RefusalLaws.{rounds-few}
-use Rattle.rules.specs.ShapeLaws.{longest-most}
-use Rattle.rules.specs.RoundLaws.{contains-fewer}
+use Rattle.laws.specs.EntryLaws.{numberAt, number-told, code-none, check-same, check-zero, check-none, step-same, step-zero, step-none, run-same, run-zero, run-none, run-any-sums}
+use Rattle.laws.specs.AnswerLaws.{lent-right, check-admitted}
+use Rattle.laws.specs.RefusalLaws.{rounds-few}
+use Rattle.laws.specs.ShapeLaws.{longest-most}
+use Rattle.laws.specs.RoundLaws.{contains-fewer}
 use Rattle.reefsplice.specs.Called.{CheckCalled, StepCalled, RunCalled}
 use Rattle.theorems.specs.Claims.{Call, ofRun, ofStep, callRefusal, heardAfterCall, roundsOfCall, AllAccepted, heardAfter, pairsOfCall, pairsOf, roundsAnswered, listeningPairs, Valid, rowOf, Given, Stays}
 use Rattle.theorems.specs.Settling.{settling-answered, settling-heard, answered-contained}

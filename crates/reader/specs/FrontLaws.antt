@@ -11,7 +11,7 @@ use Rattle.lists.specs.Tests.{by-equal}
 use Rattle.lists.specs.ListLaws.{same-cons, same-heads, same-lengths}
 use Rattle.lists.specs.Parts.{rest-of-first}
 use Rattle.rules.specs.Table.{records, recordAt, hopsOf, pathOf, hopsAt}
-use Rattle.rules.specs.TableLaws.{samePath, record-length}
+use Rattle.laws.specs.TableLaws.{samePath, record-length}
 use Rattle.reader.specs.Front.{front}
 
 pub front-part : (t : List ℕ) (i n at e : ℕ) → n ≤ 15 → at ≡ i * 16 + 1 → e ≡ at + n → take (e - at) (drop at t) ≡ front t i n

@@ -3,7 +3,7 @@ ghost use mathlib.Core.Path.{_≡_};
 ghost use Prim.Native.Nat.{_+_, _≤_, _<_};
 ghost use Rattle.rules.specs.Table.{records, recordAt, hopsAt};
 ghost use Rattle.rules.specs.Refusals.{hopsBad, vertexBad, fillerBad, twiceBad, lastBad, ownerBad, rankDue, rankBad, pathBad, fault};
-ghost use Rattle.rules.specs.TableLaws.{Orderly};
+ghost use Rattle.laws.specs.TableLaws.{Orderly};
 ghost use Rattle.reader.specs.Front.{front};
 use parts::any_outside;
 use parts::byte_at;

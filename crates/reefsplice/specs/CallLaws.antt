@@ -13,10 +13,10 @@ use Rattle.rules.specs.Machine as rules
 use Rattle.rules.specs.Run as rules-run
 use Rattle.rules.specs.Answers.{unless, checkRefusal, checkVerdict, checkNumbers, rowsAfter, ringAfter, stepRefusal, stepMovement, heardAfterStep, runRefusal, heardAfterRun, sumsAfterRun}
 use Rattle.rules.specs.Entries.{codeOf, numberBytes, twosComplement, sumBytes, checkRefusalForC, rowsForC, ringForC, checkNumbersForC, stepRefusalForC, heardStepForC, stepNumbersForC, runRefusalForC, heardRunForC, sumsForC, runNumbersForC}
-use Rattle.rules.specs.EntryLaws.{check-other, check-same, step-other, step-same, run-other, run-other-sums, run-same}
-use Rattle.rules.specs.MachineLaws.{movement-most}
-use Rattle.rules.specs.RefusalLaws.{check-numbered, step-numbered, run-numbered}
-use Rattle.rules.specs.TableLaws.{at}
+use Rattle.laws.specs.EntryLaws.{check-other, check-same, step-other, step-same, run-other, run-other-sums, run-same}
+use Rattle.laws.specs.MachineLaws.{movement-most}
+use Rattle.laws.specs.RefusalLaws.{check-numbered, step-numbered, run-numbered}
+use Rattle.laws.specs.TableLaws.{at}
 use Rattle.answer.specs.declared.Answer.{Answer}
 use Rattle.answer.specs.declared.Verdict.the-variants as verdict
 use Rattle.answer.specs.declared.StepAnswer.{StepAnswer}

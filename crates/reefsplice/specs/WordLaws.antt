@@ -17,7 +17,7 @@ use Rattle.lists.specs.FillLaws.{blocks-none, is-tabulate}
 use Rattle.lists.specs.RenewLaws.{block-length, block-more}
 use Rattle.lists.specs.SignedLaws.{back, under, left-back}
 use Rattle.rules.specs.Entries.{fourBytes, wordBytes, numberBytes, twosComplement, sumBytes}
-use Rattle.rules.specs.EntryLaws.{four-length}
+use Rattle.laws.specs.EntryLaws.{four-length}
 
 -- four stores fill four bytes
 four-written : (l : List ℕ) (a b c d : ℕ) → length l ≡ 4 → set (set (set (set l 0 a) 1 b) 2 c) 3 d ≡ a ∷ b ∷ c ∷ d ∷ []

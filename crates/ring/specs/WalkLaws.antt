@@ -19,7 +19,7 @@ use Rattle.lists.specs.FillLaws.{padded-length, padded-append}
 use Rattle.lists.specs.ListLaws.{elem-cons, elem-nil, elem-at, elem-place, getD-within}
 use Rattle.rules.specs.Table.{nextHop, pathAt}
 use Rattle.rules.specs.Greedy.{fromVertex, beforeVertex, closedPart, lowestOf, turned, ringFrom}
-use Rattle.rules.specs.RingLaws.{from-place}
+use Rattle.laws.specs.RingLaws.{from-place}
 use Rattle.ring.specs.Ring.{ringIn, nextIn, lowestMarked, ClosedAt}
 
 -- whom v follows, with a record of its own and without

@@ -1,1 +1,1 @@
-// The rules page as definitions, with the worked examples and the laws beside them: see specs/.
+// The rules page as definitions, with the worked examples beside them, and nothing else: see specs/.

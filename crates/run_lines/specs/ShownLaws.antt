@@ -12,7 +12,7 @@ use Rattle.lists.specs.FillLaws.{tabulate-at}
 use Rattle.lists.specs.ListLaws.{getD-within}
 use Rattle.rules.specs.Table.{Path, pathAt, records, slotsOf, present}
 use Rattle.rules.specs.RunText.{vertexLine}
-use Rattle.rules.specs.RunTextLaws.{vertices-present, vertices-absent}
+use Rattle.laws.specs.RunTextLaws.{vertices-present, vertices-absent}
 use Rattle.run_lines.specs.Shown.{rankedRecord, shownLine, shownLines}
 
 -- the record of a rank

@@ -17,13 +17,13 @@ use Rattle.rules.specs.Machine.{byteFor, choice, choiceBytes}
 use Rattle.rules.specs.Run.{Tally, pairsIn, run}
 use Rattle.rules.specs.Answers.{unless, runRefusal, runNumbers, heardAfterRun, sumsAfterRun, choicesIn}
 use Rattle.rules.specs.RunText.{vertexLine, vertexLines, runTextOf, ranLine, runText, ranText}
-use Rattle.rules.specs.PathLaws.{place-most}
-use Rattle.rules.specs.Blocks.{few-records, no-path}
-use Rattle.rules.specs.Sanity.{slot-holds}
-use Rattle.rules.specs.ShapeLaws.{shaped}
-use Rattle.rules.specs.MachineLaws.{speaks-other, rank-tells}
-use Rattle.rules.specs.RunTextLaws.{vertices-ext, ran-text-fits}
-use Rattle.rules.specs.AnswerLaws.{run-admitted}
+use Rattle.laws.specs.PathLaws.{place-most}
+use Rattle.laws.specs.Blocks.{few-records, no-path}
+use Rattle.laws.specs.Sanity.{slot-holds}
+use Rattle.laws.specs.ShapeLaws.{shaped}
+use Rattle.laws.specs.MachineLaws.{speaks-other, rank-tells}
+use Rattle.laws.specs.RunTextLaws.{vertices-ext, ran-text-fits}
+use Rattle.laws.specs.AnswerLaws.{run-admitted}
 use Rattle.answer.specs.declared.RunAnswer.{RunAnswer}
 use Rattle.answer.specs.Moves.{runRefusalIn, runNumbersIn}
 use Rattle.letters.specs.Lay.{Laid, overlaid}

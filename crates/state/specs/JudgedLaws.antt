@@ -18,9 +18,9 @@ use Rattle.rules.specs.Table.{Path, listens, listensAt}
 use Rattle.rules.specs.Machine.{Pair, offsetOf, speaks, badAt, badByte, heardFault}
 use Rattle.rules.specs.Run.{pairsIn}
 use Rattle.rules.specs.Answers.{firstBadPair}
-use Rattle.rules.specs.Shape.{Shaped}
-use Rattle.rules.specs.MachineLaws.{bad-same, listening, offset-listens}
-use Rattle.rules.specs.ScheduleLaws.{pairs-length, pairs-at}
+use Rattle.laws.specs.Shape.{Shaped}
+use Rattle.laws.specs.MachineLaws.{bad-same, listening, offset-listens}
+use Rattle.laws.specs.ScheduleLaws.{pairs-length, pairs-at}
 use Rattle.state.specs.Judged.{placeOr, badMarked, badOffset, marksPair, unmarked, badPair}
 
 -- a place that was found, and none

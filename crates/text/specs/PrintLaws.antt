@@ -6,7 +6,7 @@ use native.Mathlib.Omega.{arith}
 use lib.ListN.{length, take}
 use Rattle.rules.specs.Answers.{Verdict}
 use Rattle.rules.specs.Text.{textOf}
-use Rattle.rules.specs.TextLaws.{text-fits}
+use Rattle.laws.specs.TextLaws.{text-fits}
 use Rattle.letters.specs.Lay.{Laid}
 use Rattle.letters.specs.LayLaws.{laid-one, laid-fits}
 

@@ -13,9 +13,9 @@ use Rattle.lists.specs.ListLaws.{same-eq, differ}
 use Rattle.rules.specs.Table.{Path, nextHop, rest}
 use Rattle.rules.specs.Greedy.{Settled, compatible, best, judged, settled}
 use Rattle.rules.specs.Stable.{Stable, extends, bestGiven}
-use Rattle.rules.specs.Shape.{Permitted, Shaped}
-use Rattle.rules.specs.PathLaws.{Stands, first-taken}
-use Rattle.rules.specs.GreedyLaws.{settled-first, Entry, is-some, stands-permitted, judged-next, settled-later, settled-once, settled-origin, newly-judged, entered, entered-best}
+use Rattle.laws.specs.Shape.{Permitted, Shaped}
+use Rattle.laws.specs.PathLaws.{Stands, first-taken}
+use Rattle.laws.specs.GreedyLaws.{settled-first, Entry, is-some, stands-permitted, judged-next, settled-later, settled-once, settled-origin, newly-judged, entered, entered-best}
 use Rattle.theorems.specs.EnteringLaws.{origin-compatible, waiting-other, rest-shorter, settled-compatible, compatible-rest, rest-settled, entering}
 
 module _ (paths : ℕ → List Path) (present : ℕ → Bool) (shaped : Shaped paths present) (assigned : ℕ → Path) where

@@ -16,11 +16,11 @@ use Rattle.rules.specs.Run.{run, pairsIn, listeningOffsets}
 use Rattle.rules.specs.Rounds.{Contains}
 use Rattle.rules.specs.Refusals.{refusal}
 use Rattle.rules.specs.Answers.{unless, firstBadPair, heardAfterStep, runNumbers, heardAfterRun}
-use Rattle.rules.specs.ShapeLaws.{shaped}
-use Rattle.rules.specs.MachineLaws.{listening}
-use Rattle.rules.specs.RunLaws.{noPair, all-listen, run-heard, run-length, run-valid}
-use Rattle.rules.specs.RoundLaws.{rounds-contained, rounds-add, contains-none, contains-add}
-use Rattle.rules.specs.AnswerLaws.{Admitted, step-admitted, run-admitted}
+use Rattle.laws.specs.ShapeLaws.{shaped}
+use Rattle.laws.specs.MachineLaws.{listening}
+use Rattle.laws.specs.RunLaws.{noPair, all-listen, run-heard, run-length, run-valid}
+use Rattle.laws.specs.RoundLaws.{rounds-contained, rounds-add, contains-none, contains-add}
+use Rattle.laws.specs.AnswerLaws.{Admitted, step-admitted, run-admitted}
 use Rattle.theorems.specs.Claims.{Call, ofRun, ofStep, callRefusal, heardAfterCall, pairsOfCall, roundsOfCall, AllAccepted, heardAfter, pairsOf, heardAfterPairs, roundsAnswered, Valid}
 use Rattle.theorems.specs.LastingLaws.{Vertices, InRange, range-append, after}
 

@@ -16,9 +16,9 @@ use Rattle.lists.specs.ListLaws.{any-at, same-refl, same-eq}
 use Rattle.rules.specs.Table.{Path, nextHop, rest, listens}
 use Rattle.rules.specs.Greedy.{Settled, compatible, best, judged}
 use Rattle.rules.specs.Stable.{extends, bestGiven}
-use Rattle.rules.specs.Shape.{Permitted, Shaped}
-use Rattle.rules.specs.PathLaws.{Stands, first-agrees}
-use Rattle.rules.specs.GreedyLaws.{compatible-waiting, compatible-settled, is-some, stands-permitted, judged-path, judged-next}
+use Rattle.laws.specs.Shape.{Permitted, Shaped}
+use Rattle.laws.specs.PathLaws.{Stands, first-agrees}
+use Rattle.laws.specs.GreedyLaws.{compatible-waiting, compatible-settled, is-some, stands-permitted, judged-path, judged-next}
 
 -- a path and its parts
 

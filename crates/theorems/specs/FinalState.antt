@@ -12,9 +12,9 @@ use Rattle.rules.specs.Machine.{byteFor}
 use Rattle.rules.specs.Rounds.{Contains}
 use Rattle.rules.specs.Refusals.{refusal}
 use Rattle.rules.specs.Answers.{complete, verdictOf}
-use Rattle.rules.specs.ShapeLaws.{shaped}
-use Rattle.rules.specs.MachineLaws.{speaker-present}
-use Rattle.rules.specs.RingLaws.{final}
+use Rattle.laws.specs.ShapeLaws.{shaped}
+use Rattle.laws.specs.MachineLaws.{speaker-present}
+use Rattle.laws.specs.RingLaws.{final}
 use Rattle.theorems.specs.Claims.{Call, AllAccepted, heardAfter, pairsOf, listeningPairs, Valid, Rests, storing}
 use Rattle.theorems.specs.LastingLaws.{lasting-now}
 use Rattle.theorems.specs.CallLaws.{all-valid}

@@ -16,9 +16,9 @@ use Rattle.rules.specs.Table.{Path, listens, listensAt}
 use Rattle.rules.specs.Machine.{Pair, offsetOf, byteFor, pathFor, lastHeard, choice, step}
 use Rattle.rules.specs.Run.{listeningOffsets}
 use Rattle.rules.specs.Rounds.{Covers, Contains}
-use Rattle.rules.specs.Shape.{Shaped}
-use Rattle.rules.specs.MachineLaws.{offset-listens, listening, byte-tells, heard-in, choice-spoken}
-use Rattle.rules.specs.RoundLaws.{contains-last}
+use Rattle.laws.specs.Shape.{Shaped}
+use Rattle.laws.specs.MachineLaws.{offset-listens, listening, byte-tells, heard-in, choice-spoken}
+use Rattle.laws.specs.RoundLaws.{contains-last}
 use Rattle.theorems.specs.LastingLaws.{InRange, range-parts, after, after-length, Lasting, lasting-later, heard-once}
 
 module _ (paths : ℕ → List Path) (present : ℕ → Bool) (shaped : Shaped paths present) where

@@ -16,7 +16,7 @@ use Rattle.lists.specs.Fold.{foldLeft}
 use Rattle.lists.specs.FoldLaws.{fold-append, fold-keeps}
 use Rattle.rules.specs.Table.{Path}
 use Rattle.rules.specs.Machine.{Pair, offsetOf, byteFor, choice, step}
-use Rattle.rules.specs.MachineLaws.{step-length, step-here, step-there}
+use Rattle.laws.specs.MachineLaws.{step-length, step-here, step-there}
 
 -- A pair of vertices.
 pub record Vertices (p : Pair) : Type 0 where

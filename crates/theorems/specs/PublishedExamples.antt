@@ -19,8 +19,8 @@ use Rattle.rules.specs.Stable.{Stable, extends, bestGiven}
 use Rattle.rules.specs.Report.{placeIn, rankIn, rowBytes, row, rowAt, vertices, pathShown, report}
 use Rattle.rules.specs.Machine.{offsetOf, speaks, byteFor, pathFor, badAt, badByte, heardFault, lastHeard, choice, step}
 use Rattle.rules.specs.Run.{pairsIn}
-use Rattle.rules.specs.PathLaws.{first-head, first-tail}
-use Rattle.rules.specs.MachineLaws.{choice-other, heard-in}
+use Rattle.laws.specs.PathLaws.{first-head, first-tail}
+use Rattle.laws.specs.MachineLaws.{choice-other, heard-in}
 use Rattle.rules.specs.Examples.{Example, check, checked, lineOf, checkedOf, outcome, recordBytes, blockBytes, tableBytes}
 use Rattle.theorems.specs.Claims.{Call, AllAccepted, heardAfter, pairsOf, Rests, storedByte}
 use Rattle.theorems.specs.CallLaws.{all-after, all-range}

@@ -23,11 +23,11 @@ use Rattle.rules.specs.Stable.{Stable, extends, bestGiven}
 use Rattle.rules.specs.Machine.{Pair, offsetOf, byteFor, choice, step}
 use Rattle.rules.specs.Refusals.{refusal}
 use Rattle.rules.specs.Answers.{unless, stepRefusal, heardAfterStep}
-use Rattle.rules.specs.ShapeLaws.{shaped}
-use Rattle.rules.specs.PathLaws.{Stands, first-among}
-use Rattle.rules.specs.RunLaws.{all-listen}
-use Rattle.rules.specs.MachineLaws.{best-same, speaker-present, listening, step-length, step-here, step-there}
-use Rattle.rules.specs.AnswerLaws.{step-admitted}
+use Rattle.laws.specs.ShapeLaws.{shaped}
+use Rattle.laws.specs.PathLaws.{Stands, first-among}
+use Rattle.laws.specs.RunLaws.{all-listen}
+use Rattle.laws.specs.MachineLaws.{best-same, speaker-present, listening, step-length, step-here, step-there}
+use Rattle.laws.specs.AnswerLaws.{step-admitted}
 use Rattle.theorems.specs.Claims.{Valid, Rests, storedByte, storing}
 use Rattle.theorems.specs.LastingLaws.{Vertices, InRange, after}
 use Rattle.theorems.specs.EnteringLaws.{next-listens}

@@ -14,11 +14,11 @@ use Rattle.rules.specs.Stable.{Stable, extends, bestGiven}
 use Rattle.rules.specs.Machine.{Pair, offsetOf, speaks, byteFor, choice, step}
 use Rattle.rules.specs.Refusals.{refusal}
 use Rattle.rules.specs.Answers.{unless, stepRefusal, heardAfterStep}
-use Rattle.rules.specs.ShapeLaws.{shaped}
-use Rattle.rules.specs.PathLaws.{Stands, first-among}
-use Rattle.rules.specs.RunLaws.{all-listen}
-use Rattle.rules.specs.MachineLaws.{speaker-present, choice-destination, choice-spoken, speaks-other, speaks-destination, listening, step-here}
-use Rattle.rules.specs.AnswerLaws.{step-admitted, step-accepted}
+use Rattle.laws.specs.ShapeLaws.{shaped}
+use Rattle.laws.specs.PathLaws.{Stands, first-among}
+use Rattle.laws.specs.RunLaws.{all-listen}
+use Rattle.laws.specs.MachineLaws.{speaker-present, choice-destination, choice-spoken, speaks-other, speaks-destination, listening, step-here}
+use Rattle.laws.specs.AnswerLaws.{step-admitted, step-accepted}
 use Rattle.theorems.specs.Claims.{Resting, Rests, storing}
 use Rattle.theorems.specs.StoringLaws.{choice-held, storing-holds, storing-valid, holding-stored}
 

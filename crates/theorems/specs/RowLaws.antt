@@ -11,10 +11,10 @@ use Rattle.rules.specs.Table.{Path, pathsOf, present}
 use Rattle.rules.specs.Greedy.{settled, stageOf, stageCount}
 use Rattle.rules.specs.Report.{rankIn, rowBytes, row, pathShown}
 use Rattle.rules.specs.Refusals.{refusal}
-use Rattle.rules.specs.ShapeLaws.{shaped}
-use Rattle.rules.specs.GreedyLaws.{settled-present, settled-permitted, origin-path, stage-settles}
-use Rattle.rules.specs.ReportLaws.{row-part, vertices-padded}
-use Rattle.rules.specs.RingLaws.{final}
+use Rattle.laws.specs.ShapeLaws.{shaped}
+use Rattle.laws.specs.GreedyLaws.{settled-present, settled-permitted, origin-path, stage-settles}
+use Rattle.laws.specs.ReportLaws.{row-part, vertices-padded}
+use Rattle.laws.specs.RingLaws.{final}
 use Rattle.theorems.specs.Claims.{rowOf, SettledAt, AsReported}
 
 -- the path (0) can be read back from a row

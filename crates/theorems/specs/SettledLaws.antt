@@ -11,8 +11,8 @@ use Rattle.rules.specs.Report.{report}
 use Rattle.rules.specs.Machine.{Pair, byteFor, choice}
 use Rattle.rules.specs.Rounds.{Contains}
 use Rattle.rules.specs.Refusals.{refusal}
-use Rattle.rules.specs.ShapeLaws.{shaped, path-longest}
-use Rattle.rules.specs.RunLaws.{run-heard}
+use Rattle.laws.specs.ShapeLaws.{shaped, path-longest}
+use Rattle.laws.specs.RunLaws.{run-heard}
 use Rattle.theorems.specs.Claims.{Call, AllAccepted, heardAfter, pairsOf, heardAfterPairs, listeningPairs, Valid, SettledAt, AsReported, Stays}
 use Rattle.theorems.specs.LastingLaws.{InRange, range-parts, after, Lasting, lasting-now}
 use Rattle.theorems.specs.StageLaws.{stages-hold, stages-heard}

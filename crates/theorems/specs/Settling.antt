@@ -12,9 +12,9 @@ use Rattle.rules.specs.Report.{placeIn, rankIn, report}
 use Rattle.rules.specs.Machine.{byteFor, choice, step}
 use Rattle.rules.specs.Run.{run}
 use Rattle.rules.specs.Rounds.{Contains}
-use Rattle.rules.specs.MachineLaws.{speaks-other}
-use Rattle.rules.specs.RunLaws.{run-heard}
-use Rattle.rules.specs.RoundLaws.{contains-fewer}
+use Rattle.laws.specs.MachineLaws.{speaks-other}
+use Rattle.laws.specs.RunLaws.{run-heard}
+use Rattle.laws.specs.RoundLaws.{contains-fewer}
 use Rattle.theorems.specs.Claims.{Call, AllAccepted, heardAfter, pairsOf, heardAfterPairs, roundsAnswered, listeningPairs, Given, rowOf, AsReported, Stays}
 use Rattle.theorems.specs.LastingLaws.{after}
 use Rattle.theorems.specs.RowLaws.{row-tells}

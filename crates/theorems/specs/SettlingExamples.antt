@@ -24,7 +24,7 @@ use Rattle.rules.specs.Run.{pairsIn, isUp, isDown, more, listeningOffsets, clos
 use Rattle.rules.specs.Rounds.{Contains}
 use Rattle.rules.specs.Answers.{complete, verdictOf, otherLength, scheduleBad, firstBadPair, stepRefusal, runRefusal, runNumbers, heardAfterStep, heardAfterRun, unless}
 use Rattle.rules.specs.Examples.{recordBytes, blockBytes, tableBytes, table7}
-use Rattle.rules.specs.RoundLaws.{closes-all, rounds-contained, contains-none, contains-more, contains-fewer}
+use Rattle.laws.specs.RoundLaws.{closes-all, rounds-contained, contains-none, contains-more, contains-fewer}
 use Rattle.theorems.specs.Claims.{Call, ofRun, ofStep, callRefusal, heardAfterCall, pairsOfCall, roundsOfCall, AllAccepted, heardAfter, pairsOf, roundsAnswered, listeningPairs, Given, rowOf, Stays}
 use Rattle.theorems.specs.Settling.{Settling, settling}
 use Rattle.theorems.specs.StableAssignments.{reportedPaths, complete-stable}

@@ -13,10 +13,10 @@ use Rattle.rules.specs.Stable.{Stable}
 use Rattle.rules.specs.Report.{pathShown, report}
 use Rattle.rules.specs.Refusals.{refusal}
 use Rattle.rules.specs.Answers.{complete, verdictOf}
-use Rattle.rules.specs.ShapeLaws.{shaped}
-use Rattle.rules.specs.GreedyLaws.{settled-range}
-use Rattle.rules.specs.RingLaws.{final, isStuck}
-use Rattle.rules.specs.ReportLaws.{report-ring}
+use Rattle.laws.specs.ShapeLaws.{shaped}
+use Rattle.laws.specs.GreedyLaws.{settled-range}
+use Rattle.laws.specs.RingLaws.{final, isStuck}
+use Rattle.laws.specs.ReportLaws.{report-ring}
 use Rattle.theorems.specs.Claims.{rowOf, SettledAt, AsReported}
 use Rattle.theorems.specs.RowLaws.{reported, row-tells}
 use Rattle.theorems.specs.AgreementLaws.{stable-agrees, settled-stable}

@@ -20,11 +20,11 @@ use Rattle.rules.specs.Stable.{extends, bestGiven}
 use Rattle.rules.specs.Machine.{Pair, byteFor, lastHeard, choice, step}
 use Rattle.rules.specs.Run.{listeningOffsets}
 use Rattle.rules.specs.Rounds.{Contains}
-use Rattle.rules.specs.Shape.{Shaped}
-use Rattle.rules.specs.PathLaws.{Stands, first-taken}
-use Rattle.rules.specs.GreedyLaws.{stands-permitted, settled-origin, settled-first, settled-once, newly-judged}
-use Rattle.rules.specs.MachineLaws.{choice-destination, choice-other}
-use Rattle.rules.specs.RoundLaws.{contains-split}
+use Rattle.laws.specs.Shape.{Shaped}
+use Rattle.laws.specs.PathLaws.{Stands, first-taken}
+use Rattle.laws.specs.GreedyLaws.{stands-permitted, settled-origin, settled-first, settled-once, newly-judged}
+use Rattle.laws.specs.MachineLaws.{choice-destination, choice-other}
+use Rattle.laws.specs.RoundLaws.{contains-split}
 use Rattle.theorems.specs.LastingLaws.{InRange, range-parts, after, after-length, Lasting, lasting-later}
 use Rattle.theorems.specs.HearingLaws.{byte-after, heard-after}
 use Rattle.theorems.specs.EnteringLaws.{origin-compatible, waiting-other, rest-shorter, settled-compatible, compatible-rest, next-listens, entering}

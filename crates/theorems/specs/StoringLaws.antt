@@ -14,9 +14,9 @@ use Rattle.rules.specs.Table.{Path, nextHop, pathsOf, present, listens, listens
 use Rattle.rules.specs.Stable.{bestGiven}
 use Rattle.rules.specs.Machine.{offsetOf, speaks, byteFor, pathFor, lastHeard, choice}
 use Rattle.rules.specs.Refusals.{refusal}
-use Rattle.rules.specs.ShapeLaws.{shaped}
-use Rattle.rules.specs.PathLaws.{Stands, place-most}
-use Rattle.rules.specs.MachineLaws.{speaker-present, Listening, valid-bytes, byte-fits, best-same, byte-tells, choice-other, heard-in, listening, byte-good, byte-zero, bytes-valid, offset-listens}
+use Rattle.laws.specs.ShapeLaws.{shaped}
+use Rattle.laws.specs.PathLaws.{Stands, place-most}
+use Rattle.laws.specs.MachineLaws.{speaker-present, Listening, valid-bytes, byte-fits, best-same, byte-tells, choice-other, heard-in, listening, byte-good, byte-zero, bytes-valid, offset-listens}
 use Rattle.theorems.specs.Claims.{Valid, Holding, storedByte, storing}
 use Rattle.theorems.specs.EnteringLaws.{next-listens}
 

@@ -3,7 +3,7 @@
 use mathlib.Core.Path.{sym, _∙_}
 use native.Mathlib.Omega.{arith}
 use borrow.Author.Needs.{needs}
-use Rattle.rules.specs.AnswerLaws.{refused-rows, refused-ring, lent-right}
+use Rattle.laws.specs.AnswerLaws.{refused-rows, refused-ring, lent-right}
 use Rattle.reader.specs.ReadingLaws.{reading-accepted, reading-refused}
 use Rattle.checker.specs.Checked.{checked-refused, checked-accepted}
 use Rattle.checker.proofs.check.Statement.{statement}

@@ -8,7 +8,7 @@ use lib.ListN.{length}
 use Rattle.lists.specs.Fill.{tabulate}
 use Rattle.lists.specs.FillLaws.{tabulate-length}
 use Rattle.rules.specs.Table.{records, pathsBelow, listensAt}
-use Rattle.rules.specs.PassLaws.{pairs-none, pairs-more, pairs-all}
+use Rattle.laws.specs.PassLaws.{pairs-none, pairs-more, pairs-all}
 use Rattle.facts.proofs.listening_in.Statement.{statement}
 use Rattle.facts.proofs.listening_in.Tie as tie
 

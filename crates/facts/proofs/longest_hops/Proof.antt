@@ -7,7 +7,7 @@ use borrow.Author.Needs.{needs}
 use Rattle.lists.specs.Search.{maxBelow}
 use Rattle.lists.specs.SearchLaws.{max-none}
 use Rattle.rules.specs.Table.{records, hopsAt, longest}
-use Rattle.rules.specs.PassLaws.{hops-more}
+use Rattle.laws.specs.PassLaws.{hops-more}
 use Rattle.facts.proofs.longest_hops.Statement.{statement}
 use Rattle.facts.proofs.longest_hops.Tie as tie
 

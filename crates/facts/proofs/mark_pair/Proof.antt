@@ -1,7 +1,7 @@
 -- `facts::mark_pair` meets its contract: the place of the pair is marked, where there is one.
 -- Assumes nothing.
 use borrow.Author.Needs.{needs}
-use Rattle.rules.specs.PassLaws.{pair-skip, pair-store}
+use Rattle.laws.specs.PassLaws.{pair-skip, pair-store}
 use Rattle.facts.proofs.mark_pair.Statement.{statement}
 use Rattle.facts.proofs.mark_pair.Tie as tie
 

@@ -8,7 +8,7 @@ use lib.ListN.{length}
 use Rattle.lists.specs.Fill.{tabulate}
 use Rattle.lists.specs.FillLaws.{tabulate-length}
 use Rattle.rules.specs.Table.{records}
-use Rattle.rules.specs.PassLaws.{namedBelow, names-none, names-more, names-all}
+use Rattle.laws.specs.PassLaws.{namedBelow, names-none, names-more, names-all}
 use Rattle.facts.proofs.present_in.Statement.{statement}
 use Rattle.facts.proofs.present_in.Tie as tie
 

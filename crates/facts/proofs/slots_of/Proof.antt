@@ -5,7 +5,7 @@ use Prim.Native.Nat.{_≤_, _-_, min}
 use native.Mathlib.Omega.{arith}
 use borrow.Author.Needs.{needs}
 use Rattle.rules.specs.Table.{records}
-use Rattle.rules.specs.PassLaws.{Slotted, slots-skip, slots-full, slots-store, slots-none}
+use Rattle.laws.specs.PassLaws.{Slotted, slots-skip, slots-full, slots-store, slots-none}
 use Rattle.facts.proofs.slots_of.Statement.{statement}
 use Rattle.facts.proofs.slots_of.Tie as tie
 

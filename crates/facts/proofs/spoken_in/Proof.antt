@@ -4,7 +4,7 @@ use mathlib.Core.Path.{_≡_, refl}
 use Prim.Native.Nat.{_≤_, _-_}
 use native.Mathlib.Omega.{arith}
 use Rattle.rules.specs.Table.{records}
-use Rattle.rules.specs.PassLaws.{ownedCounts, counts-none, counts-skip, counts-small, counts-more, counts-all}
+use Rattle.laws.specs.PassLaws.{ownedCounts, counts-none, counts-skip, counts-small, counts-more, counts-all}
 use Rattle.facts.proofs.spoken_in.Statement.{statement}
 use Rattle.facts.proofs.spoken_in.Tie as tie
 

@@ -4,7 +4,7 @@ use native.Mathlib.Omega.{arith}
 use borrow.Author.Needs.{needs}
 use Rattle.lists.specs.Tests.{is-inside, below-out, above-out}
 use Rattle.rules.specs.Text.{codes, labelled}
-use Rattle.rules.specs.TextLaws.{place-record, place-offset, place-pair, place-none}
+use Rattle.laws.specs.TextLaws.{place-record, place-offset, place-pair, place-none}
 use Rattle.letters.specs.LayLaws.{laid-nothing, laid-as, laid-length}
 use Rattle.letters.proofs.put_place.Statement.{statement}
 use Rattle.letters.proofs.put_place.Tie as tie

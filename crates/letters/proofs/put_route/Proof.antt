@@ -3,7 +3,7 @@
 use native.Mathlib.Omega.{arith}
 use borrow.Author.Needs.{needs}
 use Rattle.rules.specs.Text.{codes, labelled}
-use Rattle.rules.specs.TextLaws.{route-none, route-some}
+use Rattle.laws.specs.TextLaws.{route-none, route-some}
 use Rattle.letters.specs.LayLaws.{laid-then, laid-as, laid-length}
 use Rattle.letters.proofs.put_route.Statement.{statement}
 use Rattle.letters.proofs.put_route.Tie as tie

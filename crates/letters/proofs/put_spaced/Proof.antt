@@ -7,7 +7,7 @@ use borrow.Author.Needs.{needs}
 use lib.ListN.{length, take}
 use lib.Seq.{take-all}
 use Rattle.rules.specs.Text.{codes, labelled, spaced}
-use Rattle.rules.specs.TextLaws.{spaced-more, spaced-none}
+use Rattle.laws.specs.TextLaws.{spaced-more, spaced-none}
 use Rattle.letters.specs.Lay.{Laid}
 use Rattle.letters.specs.LayLaws.{laid-then, laid-nothing, laid-as, laid-length}
 use Rattle.letters.proofs.put_spaced.Statement.{statement}

@@ -2,7 +2,7 @@
 -- Assumes nothing.
 use mathlib.Core.Path.{sym, _∙_}
 use borrow.Author.Needs.{needs}
-use Rattle.rules.specs.AnswerLaws.{run-refused-length, run-refused-sums, run-refused-table}
+use Rattle.laws.specs.AnswerLaws.{run-refused-length, run-refused-sums, run-refused-table}
 use Rattle.reader.specs.ReadingLaws.{reading-accepted, reading-refused}
 use Rattle.machine.specs.RanLaws.{ran-refused}
 use Rattle.machine.proofs.run.Statement.{statement}

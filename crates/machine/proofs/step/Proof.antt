@@ -2,7 +2,7 @@
 -- Assumes nothing.
 use mathlib.Core.Path.{sym, _∙_}
 use borrow.Author.Needs.{needs}
-use Rattle.rules.specs.AnswerLaws.{step-refused-length, step-refused-table}
+use Rattle.laws.specs.AnswerLaws.{step-refused-length, step-refused-table}
 use Rattle.reader.specs.ReadingLaws.{reading-accepted, reading-refused}
 use Rattle.machine.specs.StepLaws.{stepped-refused}
 use Rattle.machine.proofs.step.Statement.{statement}

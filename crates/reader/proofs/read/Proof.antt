@@ -6,7 +6,7 @@ use native.Mathlib.Omega.{arith}
 use Rattle.lists.specs.Search.{firstFrom}
 use Rattle.rules.specs.Table.{records}
 use Rattle.rules.specs.Refusals.{faulty, firstBad}
-use Rattle.rules.specs.TableLaws.{Orderly, orderly-none, orderly-more, no-fault, bad-here, good-here, none-bad, all-to-find, refused-long, refused-ragged, refused-record, not-refused}
+use Rattle.laws.specs.TableLaws.{Orderly, orderly-none, orderly-more, no-fault, bad-here, good-here, none-bad, all-to-find, refused-long, refused-ragged, refused-record, not-refused}
 use Rattle.reader.specs.Reading.{readingOf}
 use Rattle.reader.specs.declared.Reading.the-variants.{Refused}
 use Rattle.reader.proofs.read.Statement.{statement}

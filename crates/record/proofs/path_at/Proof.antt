@@ -1,7 +1,7 @@
 -- `record::path_at` meets its contract: the part from byte 2 on is the path.
 -- Assumes nothing.
 use borrow.Author.Needs.{needs}
-use Rattle.rules.specs.TableLaws.{path-part, path-short}
+use Rattle.laws.specs.TableLaws.{path-part, path-short}
 use Rattle.record.proofs.path_at.Statement.{statement}
 use Rattle.record.proofs.path_at.Tie as tie
 

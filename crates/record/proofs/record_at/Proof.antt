@@ -1,7 +1,7 @@
 -- `record::record_at` meets its contract: the part from 16 times i on is the record.
 -- Assumes nothing.
 use borrow.Author.Needs.{needs}
-use Rattle.rules.specs.TableLaws.{record-past, record-part}
+use Rattle.laws.specs.TableLaws.{record-past, record-part}
 use Rattle.record.proofs.record_at.Statement.{statement}
 use Rattle.record.proofs.record_at.Tie as tie
 

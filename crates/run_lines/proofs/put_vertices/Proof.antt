@@ -6,7 +6,7 @@ use native.Mathlib.Omega.{arith}
 use borrow.Author.Tests.{not-true, not-false}
 use mir.Syntax.{w32}
 use mir.Facts.{toZ-ofZ}
-use Rattle.rules.specs.RunTextLaws.{vertices-none}
+use Rattle.laws.specs.RunTextLaws.{vertices-none}
 use Rattle.letters.specs.Lay.{Laid}
 use Rattle.letters.specs.LayLaws.{laid-then, laid-nothing, laid-as, laid-length}
 use Rattle.run_lines.specs.Shown.{shownLines}

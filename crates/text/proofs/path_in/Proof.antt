@@ -1,7 +1,7 @@
 -- `text::path_in` meets its contract: the part from byte 3 on is the path.
 -- Assumes nothing.
 use borrow.Author.Needs.{needs}
-use Rattle.rules.specs.TextLaws.{row-path-part, row-path-short}
+use Rattle.laws.specs.TextLaws.{row-path-part, row-path-short}
 use Rattle.text.proofs.path_in.Statement.{statement}
 use Rattle.text.proofs.path_in.Tie as tie
 

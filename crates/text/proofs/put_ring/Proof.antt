@@ -5,7 +5,7 @@ use native.Mathlib.Omega.{arith}
 use borrow.Author.Needs.{needs}
 use lib.Seq.{length-take-le}
 use Rattle.rules.specs.Text.{codes}
-use Rattle.rules.specs.TextLaws.{ring-part}
+use Rattle.laws.specs.TextLaws.{ring-part}
 use Rattle.letters.specs.LayLaws.{laid-then, laid-as, laid-length}
 use Rattle.text.proofs.put_ring.Statement.{statement}
 use Rattle.text.proofs.put_ring.Tie as tie

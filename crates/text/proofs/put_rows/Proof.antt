@@ -5,7 +5,7 @@ use Prim.Native.Nat.{_≤_, _-_}
 use native.Mathlib.Omega.{arith}
 use borrow.Author.Needs.{needs}
 use Rattle.rules.specs.Text.{rowLines}
-use Rattle.rules.specs.TextLaws.{rows-none, rows-more}
+use Rattle.laws.specs.TextLaws.{rows-none, rows-more}
 use Rattle.letters.specs.Lay.{Laid}
 use Rattle.letters.specs.LayLaws.{laid-then, laid-nothing, laid-as, laid-length}
 use Rattle.text.proofs.put_rows.Statement.{statement}

@@ -3,7 +3,7 @@
 use native.Mathlib.Omega.{arith}
 use borrow.Author.Needs.{needs}
 use Rattle.rules.specs.Text.{codes, labelled}
-use Rattle.rules.specs.TextLaws.{stage-stuck, stage-some}
+use Rattle.laws.specs.TextLaws.{stage-stuck, stage-some}
 use Rattle.letters.specs.LayLaws.{laid-as, laid-length}
 use Rattle.text.proofs.put_stage.Statement.{statement}
 use Rattle.text.proofs.put_stage.Tie as tie

@@ -4,7 +4,7 @@ use mathlib.Core.Path.{ap, _∙_, sym}
 use native.Mathlib.Omega.{arith}
 use borrow.Author.Needs.{needs}
 use lib.ListN.{length}
-use Rattle.rules.specs.ReportLaws.{row-bytes-length}
+use Rattle.laws.specs.ReportLaws.{row-bytes-length}
 use Rattle.checker.specs.RowLaws.{three-length, row-written}
 use Rattle.checker.proofs.rows.write_row.Statement.{statement}
 use Rattle.checker.proofs.rows.write_row.Tie as tie

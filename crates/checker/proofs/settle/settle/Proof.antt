@@ -9,7 +9,7 @@ use Rattle.lists.specs.FillLaws.{tabulate-length}
 use Rattle.rules.specs.Table.{records, pathsOf, present, slotsOf}
 use Rattle.rules.specs.Refusals.{refusal}
 use Rattle.rules.specs.Greedy.{stageCount}
-use Rattle.rules.specs.GreedyLaws.{stages-most}
+use Rattle.laws.specs.GreedyLaws.{stages-most}
 use Rattle.checker.specs.Settling.{Stands}
 use Rattle.checker.specs.SettlingLaws.{settle-start, settle-more, settle-end}
 use Rattle.checker.proofs.settle.settle.Statement.{statement}

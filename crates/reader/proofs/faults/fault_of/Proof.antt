@@ -5,7 +5,7 @@ use Prim.Native.Nat.{ℕ, _≤_}
 use borrow.Author.Needs.{needs}
 use Rattle.rules.specs.Table.{recordAt, hopsAt}
 use Rattle.rules.specs.Refusals.{hopsBad, vertexBad, fillerBad, twiceBad, lastBad, recordRules, rule, inRecord, firstBroken}
-use Rattle.rules.specs.TableLaws.{Past, past-none, past-more, past-stop, hops-small, orderly-more}
+use Rattle.laws.specs.TableLaws.{Past, past-none, past-more, past-stop, hops-small, orderly-more}
 use Rattle.reader.specs.FrontLaws.{alone-record, alone-there}
 use Rattle.reader.proofs.faults.fault_of.Statement.{statement}
 use Rattle.reader.proofs.faults.fault_of.Tie as tie

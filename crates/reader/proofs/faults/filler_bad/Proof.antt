@@ -4,7 +4,7 @@ use mathlib.Core.Path.{ap}
 use native.Mathlib.Omega.{arith}
 use borrow.Author.Needs.{needs}
 use lib.ListN.{length}
-use Rattle.rules.specs.TableLaws.{record-length, filler-hit, filler-rest}
+use Rattle.laws.specs.TableLaws.{record-length, filler-hit, filler-rest}
 use Rattle.reader.proofs.faults.filler_bad.Statement.{statement}
 use Rattle.reader.proofs.faults.filler_bad.Tie as tie
 

@@ -1,7 +1,7 @@
 -- `reader::faults::last_bad` meets its contract: it is the byte behind the hops.
 -- Assumes nothing.
 use borrow.Author.Needs.{needs}
-use Rattle.rules.specs.TableLaws.{last-seen}
+use Rattle.laws.specs.TableLaws.{last-seen}
 use Rattle.reader.proofs.faults.last_bad.Statement.{statement}
 use Rattle.reader.proofs.faults.last_bad.Tie as tie
 

@@ -2,7 +2,7 @@
 -- Assumes nothing.
 use borrow.Author.Needs.{needs}
 use Rattle.rules.specs.Refusals.{ownerBad}
-use Rattle.rules.specs.TableLaws.{owner-bad-later}
+use Rattle.laws.specs.TableLaws.{owner-bad-later}
 use Rattle.reader.proofs.faults.owner_bad.Statement.{statement}
 use Rattle.reader.proofs.faults.owner_bad.Tie as tie
 

@@ -7,7 +7,7 @@ use native.Mathlib.Omega.{arith}
 use borrow.Author.Needs.{needs}
 use Rattle.lists.specs.Search.{anyBelow}
 use Rattle.rules.specs.Table.{records, hopsOf, rankOf, hopsAt, rankAt}
-use Rattle.rules.specs.TableLaws.{samePath, block-fits, block-start, path-hit, path-next, path-end}
+use Rattle.laws.specs.TableLaws.{samePath, block-fits, block-start, path-hit, path-next, path-end}
 use Rattle.reader.specs.FrontLaws.{alone-record, front-same}
 use Rattle.reader.proofs.faults.path_bad.Statement.{statement}
 use Rattle.reader.proofs.faults.path_bad.Tie as tie

@@ -1,7 +1,7 @@
 -- `reader::faults::rank_bad` meets its contract: the two tests are those of the definition.
 -- Assumes nothing.
 use borrow.Author.Needs.{needs}
-use Rattle.rules.specs.TableLaws.{rank-high, rank-other}
+use Rattle.laws.specs.TableLaws.{rank-high, rank-other}
 use Rattle.reader.proofs.faults.rank_bad.Statement.{statement}
 use Rattle.reader.proofs.faults.rank_bad.Tie as tie
 

@@ -2,7 +2,7 @@
 -- Assumes nothing.
 use borrow.Author.Needs.{needs}
 use Rattle.rules.specs.Refusals.{rankDue}
-use Rattle.rules.specs.TableLaws.{rank-due-new, rank-due-same}
+use Rattle.laws.specs.TableLaws.{rank-due-new, rank-due-same}
 use Rattle.reader.proofs.faults.rank_due.Statement.{statement}
 use Rattle.reader.proofs.faults.rank_due.Tie as tie
 

@@ -9,13 +9,13 @@ use lib.ListN.{length, getD, take, drop, replicate, List·getD-map}
 use lib.IntN.{ℤ, pos, negsuc}
 use Rattle.lists.specs.Tests.{by-equal, or-none, neither}
 use Rattle.lists.specs.FillLaws.{blocks-length, blocks-at}
 use Rattle.rules.specs.Refusals.{Refusal}
 use Rattle.rules.specs.Machine.{Pair}
 use Rattle.rules.specs.Answers.{otherLength, checkRefusal, stepRefusal, runRefusal}
 use Rattle.rules.specs.Entries.{codeOf, fourBytes, wordBytes, twosComplement, sumBytes, checkRefusalForC, stepRefusalForC, runRefusalForC}
-use Rattle.rules.specs.TableLaws.{at}
-use Rattle.rules.specs.RefusalLaws.{Numbered, numbered-at, check-numbered, step-numbered, run-numbered}
-use Rattle.rules.specs.AnswerLaws.{both-none, if-none, other-length, same-length, first-other, second-other, both-same, if-decides, if-passes}
+use Rattle.laws.specs.TableLaws.{at}
+use Rattle.laws.specs.RefusalLaws.{Numbered, numbered-at, check-numbered, step-numbered, run-numbered}
+use Rattle.laws.specs.AnswerLaws.{both-none, if-none, other-length, same-length, first-other, second-other, both-same, if-decides, if-passes}
 
 -- a buffer of another length is refused with 1 and place 0, and otherwise the check, the step or the run decides
 

@@ -15,12 +15,12 @@ use Rattle.lists.specs.Search.{same}
 use Rattle.lists.specs.Tests.{by-test, by-equal, by-less, or-none}
 use Rattle.lists.specs.NumberLaws.{difference-most, told-apart, told-first, told-second}
 use Rattle.lists.specs.ListLaws.{first-in-none, all-fail-in, some-at, twice-apart}
 use Rattle.rules.specs.Table.{Path, nextHop, rest, listens, listensAt}
 use Rattle.rules.specs.Stable.{extends, bestGiven}
 use Rattle.rules.specs.Report.{rankIn}
 use Rattle.rules.specs.Machine.{Pair, offsetOf, speaks, byteFor, pathFor, badAt, badByte, heardFault, lastHeard, choice, step, standingOf, standing, movement}
-use Rattle.rules.specs.Shape.{Permitted, Shaped}
-use Rattle.rules.specs.PathLaws.{Stands, first-among, first-same, place-tells, place-nil, place-most, place-absent}
+use Rattle.laws.specs.Shape.{Permitted, Shaped}
+use Rattle.laws.specs.PathLaws.{Stands, first-among, first-same, place-tells, place-nil, place-most, place-absent}
 
 -- the standing of a rank is at most 16
 pub standing-of-most : (r : ℕ) → standingOf r ≤ 16

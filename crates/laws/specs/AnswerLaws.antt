@@ -9,12 +9,12 @@ use lib.ListN.{length}
 use lib.IntN.{ℤ}
 use Rattle.lists.specs.Tests.{by-less, none≢some, or-none, or-left, or-right, neither, inside, is-inside, below-out, above-out}
 use Rattle.lists.specs.Search.{firstIn}
 use Rattle.rules.specs.Table.{pathsOf, listens}
 use Rattle.rules.specs.Refusals.{Refusal, refusal, refusedIf, refusedAt, _orElse_}
 use Rattle.rules.specs.Machine.{Pair, heardFault}
 use Rattle.rules.specs.Run.{pairsIn}
 use Rattle.rules.specs.Answers.{otherLength, scheduleBad, firstBadPair, checkRefusal, stepRefusal, runRefusal}
-use Rattle.rules.specs.TableLaws.{at}
+use Rattle.laws.specs.TableLaws.{at}
 
 pub other-length : {A : Type 0} (n : ℕ) (l : List A) → (length l ≡ n → ⊥) → otherLength n l ≡ true
 unfolding otherLength

@@ -14,12 +14,12 @@ use Rattle.lists.specs.Search.{anyBelow, anyIn, elem, outside}
 use Rattle.lists.specs.Tests.{by-test, inside, or-cases, or-none, or-right}
 use Rattle.lists.specs.SearchLaws.{any-below, some-below, max-bounds, max-most}
 use Rattle.lists.specs.ListLaws.{none-at, elem-at, elem-place, twice-apart}
 use Rattle.rules.specs.Table.{records, recordAt, hopsAt, pathAt, ownerAt, rankOf, hopsOf, pathOf, pathsOf, present, longest}
 use Rattle.rules.specs.Refusals.{refusal, hopsBad, vertexBad, unusedOf, fillerBad, twiceBad, lastBad}
-use Rattle.rules.specs.Shape.{Permitted, Shaped}
-use Rattle.rules.specs.TableLaws.{Kept, block, path-owner, record-length}
-use Rattle.rules.specs.Accepted.{accepted, orderly}
-use Rattle.rules.specs.Blocks.{no-path-twice, here, paths-length, path-in-block}
+use Rattle.laws.specs.Shape.{Permitted, Shaped}
+use Rattle.laws.specs.TableLaws.{Kept, block, path-owner, record-length}
+use Rattle.laws.specs.Accepted.{accepted, orderly}
+use Rattle.laws.specs.Blocks.{no-path-twice, here, paths-length, path-in-block}
 
 -- the layout that the rules page gives a record, byte by byte
 pub record Layout (r : List ℕ) : Type 0 where

@@ -11,9 +11,9 @@ use borrow.Author.Tests.{eqb-true, eqb-false, not-true, not-false}
 use Rattle.lists.specs.Tests.{by-equal, by-less, by-option, none≢some}
 use Rattle.lists.specs.SearchLaws.{first-none, first-found}
 use Rattle.lists.specs.Search.{firstFrom}
 use Rattle.rules.specs.Table.{records}
 use Rattle.rules.specs.Refusals.{Refusal, refusal, fault, faulty, firstBad}
-use Rattle.rules.specs.TableLaws.{Kept, no-fault, fault-range, Orderly, at, refused-long, refused-ragged, refused-record, not-refused}
+use Rattle.laws.specs.TableLaws.{Kept, no-fault, fault-range, Orderly, at, refused-long, refused-ragged, refused-record, not-refused}
 
 -- the lengths are right and every record keeps the rules
 pub record Accepted (t : List ℕ) : Type 0 where

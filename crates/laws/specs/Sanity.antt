@@ -9,21 +9,21 @@ use lib.ListN.{length, getD, replicate}
 use lib.IntN.{pos, _-ℤ_}
 use Rattle.lists.specs.Fill.{padded}
 use Rattle.lists.specs.FillLaws.{tabulate-at, padded-at}
 use Rattle.rules.specs.Table.{Path, records, recordAt, rankAt, hopsAt, pathAt, ownerAt, owned, pathsOf, slotsOf, present, listens}
 use Rattle.rules.specs.Refusals.{refusal}
 use Rattle.rules.specs.Greedy.{settled, stageCount, ringFrom}
 use Rattle.rules.specs.Report.{report, placeIn, rankIn}
 use Rattle.rules.specs.Machine.{Pair, heardFault, step, standing}
 use Rattle.rules.specs.Run.{run}
 use Rattle.rules.specs.Answers.{firstBadPair}
-use Rattle.rules.specs.Blocks.{OneBlock, no-second-block, ranks-count, path-in-block, paths-length, here}
-use Rattle.rules.specs.ShapeLaws.{Layout, layout, path-length, shaped}
-use Rattle.rules.specs.PathLaws.{place-distinct}
-use Rattle.rules.specs.GreedyLaws.{stages-most, settled-end}
-use Rattle.rules.specs.RingLaws.{Ring, isStuck, onward, stuck-next, ring-holds}
-use Rattle.rules.specs.ReportLaws.{rows-length, ring-length}
-use Rattle.rules.specs.MachineLaws.{zeros-valid, step-valid}
-use Rattle.rules.specs.RunLaws.{run-telescopes}
+use Rattle.laws.specs.Blocks.{OneBlock, no-second-block, ranks-count, path-in-block, paths-length, here}
+use Rattle.laws.specs.ShapeLaws.{Layout, layout, path-length, shaped}
+use Rattle.laws.specs.PathLaws.{place-distinct}
+use Rattle.laws.specs.GreedyLaws.{stages-most, settled-end}
+use Rattle.laws.specs.RingLaws.{Ring, isStuck, onward, stuck-next, ring-holds}
+use Rattle.laws.specs.ReportLaws.{rows-length, ring-length}
+use Rattle.laws.specs.MachineLaws.{zeros-valid, step-valid}
+use Rattle.laws.specs.RunLaws.{run-telescopes}
 
 -- a slot holds the record of that place, 65,535 past the last
 pub slot-holds : (t : List ℕ) (n v k : ℕ) → v < 64 → k < 16 → getD (getD (slotsOf t n) v []) k 65535 ≡ getD (owned t n v) k 65535

@@ -12,16 +12,16 @@ use borrow.Author.Tests.{ltb-false}
 use Rattle.lists.specs.Search.{outside}
 use Rattle.lists.specs.Tests.{by-test, by-equal, by-option, none≢some, or-none}
 use Rattle.lists.specs.ListLaws.{first-in-under}
 use Rattle.rules.specs.Table.{pathsOf, listens}
 use Rattle.rules.specs.Refusals.{Refusal, refusal}
 use Rattle.rules.specs.Machine.{Pair, heardFault}
 use Rattle.rules.specs.Run.{pairsIn, run}
 use Rattle.rules.specs.Answers.{unless, scheduleBad, firstBadPair, checkRefusal, stepRefusal, runRefusal, runNumbers}
-use Rattle.rules.specs.Accepted.{told}
-use Rattle.rules.specs.TableLaws.{at}
-use Rattle.rules.specs.ScheduleLaws.{pairs-length}
-use Rattle.rules.specs.RunLaws.{run-counts, run-steps}
-use Rattle.rules.specs.AnswerLaws.{run-whole, refused-rows, refused-ring, lent-right, step-refused-length, step-refused-table, step-refused-heard, step-refused-pair, step-accepted, run-refused-length, run-refused-sums, run-refused-table, run-refused-heard, run-refused-schedule, run-refused-pair, run-accepted}
+use Rattle.laws.specs.Accepted.{told}
+use Rattle.laws.specs.TableLaws.{at}
+use Rattle.laws.specs.ScheduleLaws.{pairs-length}
+use Rattle.laws.specs.RunLaws.{run-counts, run-steps}
+use Rattle.laws.specs.AnswerLaws.{run-whole, refused-rows, refused-ring, lent-right, step-refused-length, step-refused-table, step-refused-heard, step-refused-pair, step-accepted, run-refused-length, run-refused-sums, run-refused-table, run-refused-heard, run-refused-schedule, run-refused-pair, run-accepted}
 
 -- What a refusal of the check, the step or the run tells: a number of the page, and a place that is a record, an offset or a pair.
 pub record Numbered (r : Refusal) : Type 0 where

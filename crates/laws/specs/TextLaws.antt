@@ -21,13 +21,13 @@ use Rattle.lists.specs.FillLaws.{blocks-most, blocks-none, blocks-suc}
 use Rattle.lists.specs.Parts.{part-clipped}
 use Rattle.lists.specs.Tests.{by-test, by-equal, above-out}
 use Rattle.lists.specs.NumberLaws.{by-number}
 use Rattle.rules.specs.Table.{recordAt}
 use Rattle.rules.specs.Refusals.{Refusal, refusal}
 use Rattle.rules.specs.Report.{rowAt, report}
-use Rattle.rules.specs.ReportLaws.{ring-length}
+use Rattle.laws.specs.ReportLaws.{ring-length}
 use Rattle.rules.specs.Answers.{Verdict, complete, stuck, refused, verdict, unless, checkVerdict, checkNumbers, rowsAfter, ringAfter}
-use Rattle.rules.specs.AnswerLaws.{lent-right}
+use Rattle.laws.specs.AnswerLaws.{lent-right}
 use Rattle.rules.specs.Text.{codes, digitsIn, decimal, labelled, spaced, routeWords, placeWords, refusedLine, verdictLine, stageWords, rowPath, rowLine, rowLines, ringLine, textOf, checkText}
 
 -- the digits of a number: the last one, and those before it
 

@@ -13,12 +13,12 @@ use Rattle.lists.specs.Tests.{by-test, by-equal, by-option, true≢, and-first,
 use Rattle.lists.specs.SearchLaws.{count-ext, count-parts}
 use Rattle.lists.specs.Fill.{padded}
 use Rattle.lists.specs.FillLaws.{blocks-length, blocks-at, padded-length, padded-whole}
 use Rattle.rules.specs.Table.{Path, pathsOf, present}
 use Rattle.rules.specs.Greedy.{Settled, isSettled, stageCount, stuckIn}
-use Rattle.rules.specs.Shape.{Shaped}
-use Rattle.rules.specs.GreedyLaws.{is-some, settled-present, settled-origin}
-use Rattle.rules.specs.RingLaws.{final, isStuck, onward, ring-holds, ring-none}
+use Rattle.laws.specs.Shape.{Shaped}
+use Rattle.laws.specs.GreedyLaws.{is-some, settled-present, settled-origin}
+use Rattle.laws.specs.RingLaws.{final, isStuck, onward, ring-holds, ring-none}
 use Rattle.rules.specs.Report.{rowBytes, row, rowAt, vertices, report}
 
 -- a row's bytes are 16, whatever they hold
 pub row-bytes-length : (mark rank : ℕ) (p : Path) → length (rowBytes mark rank p) ≡ 16

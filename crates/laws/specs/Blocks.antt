@@ -14,10 +14,10 @@ use Rattle.lists.specs.SearchLaws.{none-below}
 use Rattle.lists.specs.ListLaws.{differs}
 use Rattle.lists.specs.FillLaws.{tabulate-at, tabulate-length}
 use Rattle.lists.specs.RangeLaws.{those-range, map-at}
 use Rattle.rules.specs.Table.{recordAt, records, rankAt, pathAt, ownerAt, owned, pathsBelow, pathsOf}
 use Rattle.rules.specs.Refusals.{refusal, pathBad}
-use Rattle.rules.specs.TableLaws.{Block, block, record-past, path-short}
-use Rattle.rules.specs.Accepted.{accepted, orderly}
+use Rattle.laws.specs.TableLaws.{Block, block, record-past, path-short}
+use Rattle.laws.specs.Accepted.{accepted, orderly}
 
 module _ (t : List ℕ) (e : refusal t ≡ none) where
   -- two records of one owner: all between are the owner's, and the ranks rise by one from each to the next

@@ -12,18 +12,18 @@ use lib.IntN.{ℤ, pos, negsuc}
 use Rattle.lists.specs.Fill.{blocks}
 use Rattle.lists.specs.FillLaws.{blocks-none, blocks-suc, blocks-ext, blocks-most}
 use Rattle.lists.specs.Tests.{by-test, by-option, none≢some}
 use Rattle.rules.specs.Table.{Path, pathsOf, present}
 use Rattle.rules.specs.Refusals.{Refusal, refusal}
 use Rattle.rules.specs.Machine.{choice}
 use Rattle.rules.specs.Run.{Tally}
 use Rattle.rules.specs.Answers.{runRefusal}
 use Rattle.rules.specs.Text.{codes, labelled, spaced}
 use Rattle.rules.specs.RunText.{signed, runLine, vertexLine, vertexLines, runTextOf, ranLine, runText, ranText}
-use Rattle.rules.specs.PathLaws.{Stands}
-use Rattle.rules.specs.ShapeLaws.{shaped}
-use Rattle.rules.specs.MachineLaws.{speaks-other, choice-spoken}
-use Rattle.rules.specs.AnswerLaws.{run-refused-table}
-use Rattle.rules.specs.TextLaws.{decimal-most, decimal-few, spaced-few, route-most, refused-most}
+use Rattle.laws.specs.PathLaws.{Stands}
+use Rattle.laws.specs.ShapeLaws.{shaped}
+use Rattle.laws.specs.MachineLaws.{speaks-other, choice-spoken}
+use Rattle.laws.specs.AnswerLaws.{run-refused-table}
+use Rattle.laws.specs.TextLaws.{decimal-most, decimal-few, spaced-few, route-most, refused-most}
 
 -- one more vertex behind those before it
 module _ (isPresent : ℕ → Bool) (line : ℕ → List ℕ) where

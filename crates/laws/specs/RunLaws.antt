@@ -17,12 +17,12 @@ use Rattle.lists.specs.Fold.{foldLeft}
 use Rattle.lists.specs.FoldLaws.{fold-append, fold-keeps, fold-keeps-of, fold-part, fold-grows, fold-alike}
 use Rattle.lists.specs.Tests.{by-test, by-equal, by-less}
 use Rattle.lists.specs.NumberLaws.{telescope}
 use Rattle.rules.specs.Table.{Path, listens}
 use Rattle.rules.specs.Machine.{Pair, offsetOf, heardFault, choice, step, standing, movement}
 use Rattle.rules.specs.Run.{Tally, isUp, isDown, more, closes, listeningOffsets, begun, activated, run}
 use Rattle.rules.specs.Answers.{firstBadPair}
-use Rattle.rules.specs.Shape.{Shaped}
-use Rattle.rules.specs.MachineLaws.{listening, step-length, step-valid, standing-kept}
+use Rattle.laws.specs.Shape.{Shaped}
+use Rattle.laws.specs.MachineLaws.{listening, step-length, step-valid, standing-kept}
 
 -- a schedule with no bad pair listens throughout
 pub all-listen : (paths : ℕ → List Path) (s : List Pair) (d : Pair)

@@ -14,9 +14,9 @@ use Rattle.lists.specs.SearchLaws.{max-suc, any-below-suc, those-in, those-out,
 use Rattle.lists.specs.ListLaws.{any-append, any-cons, any-nil}
 use Rattle.lists.specs.FillLaws.{is-tabulate, mark-one, tabulate-ext, tabulate-set, tabulate-at, mark-list, padded-more, padded-full}
 use Rattle.lists.specs.Tests.{by-equal, by-less, eqb-same}
 use Rattle.rules.specs.Table.{Path, records, pathAt, hopsAt, ownerAt, owned, pathsBelow, pathsOf, present, slotsOf, nextHop, listens, listensAt}
 use Rattle.rules.specs.Machine.{speaks}
-use Rattle.rules.specs.MachineLaws.{speaks-destination, speaks-other}
+use Rattle.laws.specs.MachineLaws.{speaks-destination, speaks-other}
 
 module _ (t : List ℕ) (i : ℕ) where
   -- the greatest hops

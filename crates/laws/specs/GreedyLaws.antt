@@ -13,10 +13,10 @@ use Rattle.lists.specs.SearchLaws.{Found, finds-passing, none-below, some-below
 use Rattle.lists.specs.Tests.{by-test, by-equal, by-less, by-option, true≢, none≢some, and-parts, both}
 use Rattle.lists.specs.Fill.{tabulate}
 use Rattle.lists.specs.FillLaws.{tabulate-length, tabulate-at}
 use Rattle.rules.specs.Table.{Path, nextHop}
 use Rattle.rules.specs.Greedy.{Settled, isSettled, compatible, atStart, best, judged, stage, settledList, settled, enters, quiet, stageCount, stageOf}
-use Rattle.rules.specs.Shape.{Permitted, Shaped}
-use Rattle.rules.specs.PathLaws.{Stands, first-among}
+use Rattle.laws.specs.Shape.{Permitted, Shaped}
+use Rattle.laws.specs.PathLaws.{Stands, first-among}
 
 -- what the test of being settled says
 

@@ -15,11 +15,11 @@ use Rattle.lists.specs.ListLaws.{twice-apart, apart-twice}
 use Rattle.lists.specs.Tests.{by-test, by-equal, by-less, by-option, true≢, none≢some, and-parts, both}
 use Rattle.lists.specs.Fill.{tabulate}
 use Rattle.lists.specs.FillLaws.{tabulate-length, tabulate-at, tabulate-ext, tabulate-add, tabulate-take, tabulate-drop, tabulate-elem, tabulate-place}
 use Rattle.rules.specs.Table.{Path, nextHop}
 use Rattle.rules.specs.Greedy.{Settled, isSettled, compatible, best, judged, settled, stageCount, stuckIn, follows, fromVertex, beforeVertex, closedPart, lowestOf, turned, ringFrom}
-use Rattle.rules.specs.Shape.{Permitted, Shaped}
-use Rattle.rules.specs.PathLaws.{First, missing, found, first-cases}
-use Rattle.rules.specs.GreedyLaws.{is-none, stage-judges, settled-origin, quiet-stage, stages-quiet}
+use Rattle.laws.specs.Shape.{Permitted, Shaped}
+use Rattle.laws.specs.PathLaws.{First, missing, found, first-cases}
+use Rattle.laws.specs.GreedyLaws.{is-none, stage-judges, settled-origin, quiet-stage, stages-quiet}
 
 -- The ring: its vertices are stuck, each is followed by the next and the last by the first,
 -- they are 2 to 63, it begins at the lowest, and none stands in it twice.

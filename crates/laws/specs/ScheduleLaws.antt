@@ -4,10 +4,10 @@ use mathlib.Core.List.{List, [], _∷_, _++_}
 use Prim.Native.Nat.{ℕ, zero, suc, _+_, _*_, _/_, _%_, _<_}
 use native.Mathlib.Omega.{arith}
 use lib.ListN.{length, getD}
 use Rattle.rules.specs.Table.{Path}
 use Rattle.rules.specs.Machine.{Pair}
 use Rattle.rules.specs.Run.{pairsIn, run}
-use Rattle.rules.specs.RunLaws.{Joined, run-append}
+use Rattle.laws.specs.RunLaws.{Joined, run-append}
 
 -- two bytes are one pair
 pub pairs-length : (s : List ℕ) → length (pairsIn s) ≡ length s / 2

@@ -1,0 +1,22 @@
+-- The laws of accepted tables, and all of them in one place.
+pub mod Shape
+pub mod Accepted
+pub mod Blocks
+pub mod ShapeLaws
+pub mod Sanity
+-- The laws of the definitions that those and the proofs of the code use.
+pub mod TableLaws
+pub mod PassLaws
+pub mod PathLaws
+pub mod GreedyLaws
+pub mod RingLaws
+pub mod ReportLaws
+pub mod MachineLaws
+pub mod RunLaws
+pub mod RoundLaws
+pub mod ScheduleLaws
+pub mod AnswerLaws
+pub mod RefusalLaws
+pub mod EntryLaws
+pub mod TextLaws
+pub mod RunTextLaws

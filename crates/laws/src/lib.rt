@@ -1,0 +1,1 @@
+// What follows from the definitions of `rules`, for every table: see specs/.
