@@ -9,8 +9,6 @@ use lib.ListN.{getD}
 use Rattle.lists.specs.Tests.{by-test, by-option}
 use Rattle.rules.specs.Table.{Path, pathsOf, present}
 use Rattle.rules.specs.Greedy.{Settled, isSettled, settled, stageOf}
-use Rattle.lists.specs.Search.{firstFrom}
-use Rattle.lists.specs.SearchLaws.{first-found}
 use Rattle.lists.specs.FillLaws.{tabulate-at}
 use Rattle.checker.specs.Settling.{markAt, Stands}
 
@@ -44,11 +42,3 @@ mark-same t j k v q =
     (λ n. mark-waits t j v a (q ∙ n) ∙ sym (mark-waits t k v a n))
     (λ p n. mark-settled t j v p a (q ∙ n) ∙ sym (mark-settled t k v p a n)))
     (λ a. mark-absent t j v a ∙ sym (mark-absent t k v a))
-
--- no stage is above 64
-pub stage-small : (t : List ℕ) (v : ℕ) → stageOf (pathsOf t) (present t) v ≤ 64
-unfolding stageOf
-stage-small t v =
-    by-option (firstFrom (λ k. isSettled (settled (pathsOf t) (present t) k v)) 0 64)
-    (λ q. rw (q, stageOf) (omega arith))
-    (λ n q. rw (q, stageOf) (omega (arith, first-found (λ k. isSettled (settled (pathsOf t) (present t) k v)) 0 64 n q .under)))

@@ -22,7 +22,7 @@ use Rattle.laws.specs.ShapeLaws.{shaped, path-length, names}
 use Rattle.laws.specs.TableLaws.{record-past, path-owner}
 use Rattle.laws.specs.Sanity.{rank-byte}
 use Rattle.laws.specs.PathLaws.{place-absent, place-nil}
-use Rattle.laws.specs.GreedyLaws.{settled-origin, settled-present}
+use Rattle.laws.specs.GreedyLaws.{settled-origin, settled-present, stage-small, stage-origin}
 use Rattle.laws.specs.RingLaws.{final, isStuck, onward, stuck-present, stuck-unsettled, stuck-next}
 use Rattle.judge.specs.Standing.{isJudged}
 use Rattle.judge.specs.StandingLaws.{holds-record, settled-holds}
@@ -30,8 +30,7 @@ use Rattle.ring.specs.Ring.{ringIn}
 use Rattle.ring.specs.RingLaws.{ring-agrees}
 use Rattle.checker.specs.Settling.{Own, Ended}
 use Rattle.laws.specs.Blocks.{few-records, no-path}
-use Rattle.checker.specs.MarkLaws.{mark-here, mark-absent, mark-waits, mark-settled, stage-small}
-use Rattle.checker.specs.StartLaws.{stage-origin}
+use Rattle.checker.specs.MarkLaws.{mark-here, mark-absent, mark-waits, mark-settled}
 use Rattle.checker.specs.Rows.{shownRow, isBetween, countBetween}
 
 -- the rank byte of what a vertex shows is the rank of its path
@@ -105,7 +104,7 @@ module _ (t : List ℕ) (e : refusal t ≡ none) (marks shown : List ℕ) (stage
   unfolding shownRow
   shown-zero =
       sym (row-settled 0 (0 ∷ []) (shaped t e .origin) (settled-origin (pathsOf t) (present t) last)
-      ∙ rw (stage-origin t, origin-rank))
+      ∙ rw (stage-origin (pathsOf t) (present t), origin-rank))
 
   -- each vertex's row is that of the rules
   pub row-shown : (v : ℕ) → v < 64 → shownRow t marks shown v ≡ row (pathsOf t) (present t) S v
@@ -136,7 +135,7 @@ module _ (t : List ℕ) (e : refusal t ≡ none) (marks shown : List ℕ) (stage
       (λ a. waiting a q (mark-here (d .stands) v 254 h ∙ mark-waits t last v a q))
       (λ a. away a q (mark-here (d .stands) v 254 h ∙ mark-absent t last v a)))
       (λ p q. let a = settled-present (pathsOf t) (present t) (shaped t e .origin) last v p q in
-      done p a q (omega (arith, mark-here (d .stands) v 254 h, mark-settled t last v p a q, stage-small t v)))
+      done p a q (omega (arith, mark-here (d .stands) v 254 h, mark-settled t last v p a q, stage-small (pathsOf t) (present t) v)))
 
   -- the stuck are those that would be judged once more
   judged-stuck : (v : ℕ) → v < 64 → isJudged marks v ≡ isStuck (pathsOf t) (present t) v

@@ -13,15 +13,15 @@ use Rattle.lists.specs.Fill.{tabulate}
 use Rattle.lists.specs.FillLaws.{tabulate-length, tabulate-at, tabulate-ext}
 use Rattle.rules.specs.Table.{Path, records, pathAt, pathsOf, present, slotsOf}
 use Rattle.rules.specs.Refusals.{refusal}
-use Rattle.rules.specs.Greedy.{Settled, isSettled, judged, best, settled, stageCount, enters, quiet}
+use Rattle.rules.specs.Greedy.{Settled, isSettled, judged, best, settled, stageCount, enters}
 use Rattle.laws.specs.ShapeLaws.{shaped}
-use Rattle.laws.specs.GreedyLaws.{is-none, is-some, judged-path, settled-suc, settled-out, settled-stays, settled-origin, settled-present, stage-absent, stage-judges, stages-most, stages-busy, stages-quiet, quiet-stage, busy-some, enters-counted, stage-entered}
+use Rattle.laws.specs.GreedyLaws.{is-none, is-some, judged-path, settled-suc, settled-out, settled-stays, settled-origin, settled-present, stage-absent, stage-judges, stages-most, stages-busy, stages-quiet, quiet, quiet-stage, busy-some, enters-counted, stage-entered, stage-small}
 use Rattle.lists.specs.Search.{same}
 use Rattle.judge.specs.Standing.{isIn, heldPath, settledBy, bestRecord, entersWith, isJudged, shownAfter, markAfter}
 use Rattle.judge.specs.StandingLaws.{holds-record, holds-same, in-settled, out-unsettled, settled-holds}
 use Rattle.checker.specs.Settling.{markAt, Own, Stands, Waits}
 use Rattle.checker.specs.BestLaws.{enters-judged, best-found, best-own}
-use Rattle.checker.specs.MarkLaws.{mark-here, mark-absent, mark-waits, mark-settled, mark-same, stage-small}
+use Rattle.checker.specs.MarkLaws.{mark-here, mark-absent, mark-waits, mark-settled, mark-same}
 
 -- how a vertex comes through the stage after k
 
@@ -115,7 +115,7 @@ module _ (t : List ℕ) (e : refusal t ≡ none) (k : ℕ) (marks shown : List �
         go (gone a q) =
             keeps-mark v h (not-judged v h (λ z. omega (arith, mark-absent t k v a))) ∙ mark-absent t k v a ∙ sym (mark-absent t (suc k) v a)
         go (stays p a q) =
-            keeps-mark v h (not-judged v h (λ z. omega (arith, mark-settled t k v p a q, stage-small t v)))
+            keeps-mark v h (not-judged v h (λ z. omega (arith, mark-settled t k v p a q, stage-small (pathsOf t) (present t) v)))
             ∙ mark-settled t k v p a q
             ∙ sym (mark-settled t (suc k) v p a (settled-stays (pathsOf t) (present t) k v p q))
         go (waits a q j) =
@@ -177,15 +177,15 @@ module _ (t : List ℕ) (e : refusal t ≡ none) (k : ℕ) (marks shown : List �
             out-unsettled t marksNext shownNext v (not-in v h (omega (arith, mark-absent t (suc k) v a))) ∙ sym (after-gone t e k v h a q)
         go h (stays p a q) =
             let f = settled-stays (pathsOf t) (present t) k v p q in
-            in-settled t marksNext shownNext v (is-in v h (omega (arith, mark-settled t (suc k) v p a f, stage-small t v)))
-            ∙ ap some (held-stays v p h q (keeps-shown v h (not-judged v h (λ z. omega (arith, mark-settled t k v p a q, stage-small t v)))))
+            in-settled t marksNext shownNext v (is-in v h (omega (arith, mark-settled t (suc k) v p a f, stage-small (pathsOf t) (present t) v)))
+            ∙ ap some (held-stays v p h q (keeps-shown v h (not-judged v h (λ z. omega (arith, mark-settled t k v p a q, stage-small (pathsOf t) (present t) v)))))
             ∙ sym f
         go h (waits a q j) =
             let f = after-judged t e k v h a q ∙ j in
             out-unsettled t marksNext shownNext v (not-in v h (omega (arith, mark-waits t (suc k) v a f))) ∙ sym f
         go h (goesIn a q j) =
             let f = after-judged t e k v h a q ∙ j in
-            in-settled t marksNext shownNext v (is-in v h (omega (arith, mark-settled t (suc k) v _ a f, stage-small t v)))
+            in-settled t marksNext shownNext v (is-in v h (omega (arith, mark-settled t (suc k) v _ a f, stage-small (pathsOf t) (present t) v)))
             ∙ ap some (held-enters v h (λ z. none≢some (rw z at q) (settled-origin (pathsOf t) (present t) k))
             (gets-shown v h (is-judged v h (mark-waits t k v a q))))
             ∙ sym f
@@ -235,7 +235,7 @@ module _ (t : List ℕ) (e : refusal t ≡ none) (k : ℕ) (marks shown : List �
           sym (mark-here st v 0 h) ∙ ap (λ (l : List ℕ). getD l v 0) q ∙ mark-next v 0 h,
           mark-waits t k v a old,
           mark-settled t (suc k) v (new .0) a f,
-          stage-small t v,
+          stage-small (pathsOf t) (present t) v,
         )))
 
     pub other-busy : (marks ≡ marksNext → ⊥) → quiet (pathsOf t) (present t) k ≡ false

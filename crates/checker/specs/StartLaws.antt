@@ -13,10 +13,9 @@ use Rattle.lists.specs.Fill.{tabulate}
 use Rattle.lists.specs.FillLaws.{tabulate-length, tabulate-at, tabulate-ext, alike-at}
 use Rattle.rules.specs.Table.{pathsOf, present}
 use Rattle.rules.specs.Refusals.{refusal}
-use Rattle.rules.specs.Greedy.{isSettled, atStart, settled, stageOf}
+use Rattle.rules.specs.Greedy.{atStart, settled}
 use Rattle.laws.specs.ShapeLaws.{shaped}
-use Rattle.laws.specs.GreedyLaws.{settled-zero, settled-out, settled-origin}
-use Rattle.lists.specs.SearchLaws.{first-hit}
+use Rattle.laws.specs.GreedyLaws.{settled-zero, settled-out, settled-origin, stage-origin}
 use Rattle.judge.specs.Standing.{isIn, settledBy}
 use Rattle.judge.specs.StandingLaws.{holds-origin, in-settled, out-unsettled}
 use Rattle.checker.specs.Settling.{markAt, startMark, Stands}
@@ -42,12 +41,6 @@ pub start-same : (f g : ℕ → Bool) (v : ℕ) → f v ≡ g v → startMark f 
 unfolding startMark
 start-same f g v e = by-equal v 0 (λ q. rw (eq-eqb v 0 q, startMark)) (λ q. rw (ne-eqb v 0 q, e, startMark))
 
--- vertex 0 settled at stage 0
-pub stage-origin : (t : List ℕ) → stageOf (pathsOf t) (present t) 0 ≡ 0
-unfolding stageOf isSettled
-stage-origin t =
-    rw (first-hit (λ k. isSettled (settled (pathsOf t) (present t) k 0)) 0 63 (rw (settled-origin (pathsOf t) (present t) 0)), stageOf)
-
 module _ (t : List ℕ) (e : refusal t ≡ none) where
   -- every other vertex waits or is absent
   start-none : (v : ℕ) → v ≢ 0 → settled (pathsOf t) (present t) 0 v ≡ none
@@ -61,7 +54,7 @@ module _ (t : List ℕ) (e : refusal t ≡ none) where
   start-mark v =
       by-equal v 0
       (λ q. sym (start-origin (present t) v q)
-      ∙ sym (rw q (mark-settled t 0 0 _ (shaped t e .origin) (settled-origin (pathsOf t) (present t) 0) ∙ stage-origin t)))
+      ∙ sym (rw q (mark-settled t 0 0 _ (shaped t e .origin) (settled-origin (pathsOf t) (present t) 0) ∙ stage-origin (pathsOf t) (present t))))
       (λ q. by-test (present t v)
       (λ a. sym (start-present (present t) v q a) ∙ sym (mark-waits t 0 v a (start-none v q)))
       (λ a. sym (start-absent (present t) v q a) ∙ sym (mark-absent t 0 v a)))

@@ -8,13 +8,13 @@ use Prim.Native.Nat.{ℕ, zero, suc, _+_, _-_, _<_, _≤_}
 use native.Mathlib.Omega.{arith}
 use lib.ListN.{List·getD-eq-default}
 use borrow.Author.Tests.{ne-eqb, not-true, not-false}
-use Rattle.lists.specs.Search.{anyBelow, countBelow, same}
-use Rattle.lists.specs.SearchLaws.{Found, finds-passing, none-below, some-below, count-most, count-less}
+use Rattle.lists.specs.Search.{anyBelow, countBelow, firstFrom, same}
+use Rattle.lists.specs.SearchLaws.{Found, first-found, finds-passing, none-below, some-below, count-most, count-less}
 use Rattle.lists.specs.Tests.{by-test, by-equal, by-less, by-option, true≢, none≢some, and-parts, both}
 use Rattle.lists.specs.Fill.{tabulate}
 use Rattle.lists.specs.FillLaws.{tabulate-length, tabulate-at}
 use Rattle.rules.specs.Table.{Path, nextHop}
-use Rattle.rules.specs.Greedy.{Settled, isSettled, compatible, atStart, best, judged, stage, settledList, settled, enters, quiet, stageCount, stageOf}
+use Rattle.rules.specs.Greedy.{Settled, isSettled, compatible, atStart, best, judged, stage, settledList, settled, enters, isQuiet, stagesFrom, stagesUntil, stageCount, stageOf}
 use Rattle.laws.specs.Shape.{Permitted, Shaped}
 use Rattle.laws.specs.PathLaws.{Stands, first-among}
 
@@ -200,15 +200,52 @@ module _ (paths : ℕ → List Path) (present : ℕ → Bool) where
 
   -- the counted stages
 
+  -- whether nobody enters in the stage after k
+  abbrev pub quiet : ℕ → Bool
+  quiet k = isQuiet paths present (settled paths present k)
+
+  -- the stages that pass until a test holds are those before the first after which it does
+
+  module _ (test : Settled → Bool) where
+    one-on : (k n : ℕ) → k + suc n ≡ suc k + n
+    one-on k n = omega arith
+
+    abbrev holds : ℕ → Bool
+    holds k = test (settled paths present k)
+
+    stages-from : (n k : ℕ)
+        → k + stagesFrom paths present test n (settledList paths present k)
+        ≡ elim (firstFrom holds k n) [ none ↦ k + n | some s ↦ s ]
+    unfolding stagesFrom settled settledList firstFrom
+    stages-from zero k = refl
+    stages-from (suc n) k =
+        by-test (holds k)
+        (λ q. rw (q, stagesFrom, firstFrom) (omega arith))
+        (λ q. rw (q, stagesFrom, firstFrom)
+        (one-on k _ ∙ stages-from n (suc k) ∙ ap (λ (d : ℕ). elim (firstFrom holds (suc k) n) [ none ↦ d | some s ↦ s ]) (sym (one-on k n))))
+
+    until-first : stagesUntil paths present test ≡ elim (firstFrom holds 0 64) [ none ↦ 64 | some s ↦ s ]
+    unfolding stagesUntil settledList
+    until-first = omega (arith, stages-from 64 0)
+
+    pub until-found : (k : ℕ) → k < 64 → holds k ≡ true → Found holds 0 64 (stagesUntil paths present test)
+    until-found k h e = rw until-first (finds-passing holds 64 64 k h e)
+
+    pub until-most : stagesUntil paths present test ≤ 64
+    until-most =
+        by-option (firstFrom holds 0 64)
+        (λ q. rw (until-first, q) (omega arith))
+        (λ n q. rw (until-first, q) (omega (arith, first-found holds 0 64 n q .under)))
+
   -- in a quiet stage nobody enters
-  pub quiet-none : (k v : ℕ) → quiet paths present k ≡ true → v < 64 → enters paths present (settled paths present k) v ≡ false
-  unfolding quiet
+  pub quiet-none : (k v : ℕ) → quiet k ≡ true → v < 64 → enters paths present (settled paths present k) v ≡ false
+  unfolding isQuiet
   quiet-none k v q h = none-below (enters paths present (settled paths present k)) 64 (not-true _ q) v h
 
   pub busy-some : (k : ℕ)
-      → quiet paths present k ≡ false
+      → quiet k ≡ false
       → (v : ℕ) × (v < 64) × (enters paths present (settled paths present k) v ≡ true)
-  unfolding quiet
+  unfolding isQuiet
   busy-some k q = some-below (enters paths present (settled paths present k)) 64 (not-false _ q)
 
   -- who is settled after k stages, and how many are
@@ -219,7 +256,7 @@ module _ (paths : ℕ → List Path) (present : ℕ → Bool) where
   count k = countBelow (done k) 64
 
   -- while somebody enters, the number rises
-  count-rises : (k : ℕ) → quiet paths present k ≡ false → count k < count (suc k)
+  count-rises : (k : ℕ) → quiet k ≡ false → count k < count (suc k)
   unfolding count enters isSettled
   count-rises k q =
       let r = busy-some k q in
@@ -227,7 +264,7 @@ module _ (paths : ℕ → List Path) (present : ℕ → Bool) where
       count-less (done k) (done (suc k)) 64 (r .0) (r .1) (not-true _ (e .0)) (rw (settled-suc k (r .0) (r .1)) (e .1))
       (λ v h e. let s = is-some _ e in rw (settled-stays k v (s .0) (s .1)))
 
-  count-grows : (k : ℕ) → ((j : ℕ) → j < k → quiet paths present j ≡ false) → k < count k
+  count-grows : (k : ℕ) → ((j : ℕ) → j < k → quiet j ≡ false) → k < count k
   unfolding count isSettled
   count-grows zero h =
       let less = count-less (λ v. false) (done 0) 64 0 (omega arith) refl (rw (settled-origin 0))
@@ -236,12 +273,12 @@ module _ (paths : ℕ → List Path) (present : ℕ → Bool) where
   count-grows (suc k) h = omega (arith, count-grows k (λ j l. h j (omega arith)), count-rises k (h k (omega arith)))
 
   -- the stage count is that of the first quiet stage
-  pub stages-found : Found (quiet paths present) 0 64 (stageCount paths present)
+  pub stages-found : Found quiet 0 64 (stageCount paths present)
   unfolding stageCount count
   stages-found =
-      let calm = quiet paths present in
+      let calm : ℕ → Bool = quiet in
       by-test (anyBelow calm 64)
-      (λ q. let r = some-below calm 64 q in finds-passing calm 64 64 (r .0) (r .1) (r .2))
+      (λ q. let r = some-below calm 64 q in until-found (isQuiet paths present) (r .0) (r .1) (r .2))
       (λ q. absurd (omega (arith, count-grows 64 (none-below calm 64 q), count-most (done 64) 64)))
 
   -- "The stage count s is 0 to 63."
@@ -249,16 +286,16 @@ module _ (paths : ℕ → List Path) (present : ℕ → Bool) where
   stages-most = omega (arith, stages-found .under)
 
   -- in every counted stage somebody enters
-  pub stages-busy : (k : ℕ) → k < stageCount paths present → quiet paths present k ≡ false
+  pub stages-busy : (k : ℕ) → k < stageCount paths present → quiet k ≡ false
   stages-busy k h = stages-found .earliest k (omega arith) h
 
   -- "The first stage in which none enters isn't counted."
-  pub stages-quiet : quiet paths present (stageCount paths present) ≡ true
+  pub stages-quiet : quiet (stageCount paths present) ≡ true
   stages-quiet = stages-found .passes
 
   -- a quiet stage changes nothing
   pub quiet-stage : (k v : ℕ)
-      → quiet paths present k ≡ true
+      → quiet k ≡ true
       → v < 64
       → stage paths present (settled paths present k) v ≡ settled paths present k v
   unfolding enters isSettled
@@ -269,7 +306,7 @@ module _ (paths : ℕ → List Path) (present : ℕ → Bool) where
       (λ p e. stage-keeps (settled paths present k) v p e ∙ sym e)
 
   -- and no later stage does
-  pub quiet-on : (k n v : ℕ) → quiet paths present k ≡ true → settled paths present (k + n) v ≡ settled paths present k v
+  pub quiet-on : (k n v : ℕ) → quiet k ≡ true → settled paths present (k + n) v ≡ settled paths present k v
   quiet-on k zero v q = let z : k + 0 ≡ k = omega arith in rw z
   quiet-on k (suc n) v q =
       let z : k + suc n ≡ suc (k + n) = omega arith in
@@ -297,6 +334,18 @@ module _ (paths : ℕ → List Path) (present : ℕ → Bool) where
 
   -- the stage at which a vertex settled
 
+  pub stage-small : (v : ℕ) → stageOf paths present v ≤ 64
+  unfolding stageOf
+  stage-small v = until-most (λ S. isSettled (S v))
+
+  -- vertex 0 settled at stage 0
+  pub stage-origin : stageOf paths present 0 ≡ 0
+  unfolding stageOf isSettled
+  stage-origin =
+      let r = until-found (λ S. isSettled (S 0)) 0 (omega arith) (rw (settled-origin 0)) in
+      by-less 0 (stageOf paths present 0)
+      (λ l. absurd (none≢some (is-none _ (r .earliest 0 (omega arith) l)) (settled-origin 0))) (λ l. omega arith)
+
   -- it is that in which it enters
   pub stage-entered : (k v : ℕ) (p : Path)
       → k < 63
@@ -305,7 +354,7 @@ module _ (paths : ℕ → List Path) (present : ℕ → Bool) where
       → stageOf paths present v ≡ suc k
   unfolding stageOf isSettled
   stage-entered k v p h e f =
-      let r = finds-passing (λ n. isSettled (settled paths present n v)) 64 64 (suc k) (omega arith) (rw f) in
+      let r = until-found (λ S. isSettled (S v)) (suc k) (omega arith) (rw f) in
       let s = is-some _ (r .passes) in
       by-less (stageOf paths present v) (suc k)
       (λ l. absurd (none≢some e (let z : stageOf paths present v + (k - stageOf paths present v) ≡ k = omega arith in
@@ -318,7 +367,7 @@ module _ (paths : ℕ → List Path) (present : ℕ → Bool) where
     pub stage-found : Found (λ k. isSettled (settled paths present k v)) 0 64 (stageOf paths present v)
     unfolding stageOf isSettled
     stage-found =
-        finds-passing (λ k. isSettled (settled paths present k v)) 64 64 (stageCount paths present) (omega (arith, stages-most)) (rw e)
+        until-found (λ S. isSettled (S v)) (stageCount paths present) (omega (arith, stages-most)) (rw e)
 
     pub stage-before : (k : ℕ) → k < stageOf paths present v → settled paths present k v ≡ none
     stage-before k h = is-none _ (stage-found .earliest k (omega arith) h)

@@ -10,7 +10,7 @@ use Rattle.lists.specs.Fill.{tabulate, blocks, padded}
 use Rattle.lists.specs.Fold.{foldLeft}
 use Rattle.rules.specs.Table.{recordAt, records, rankOf, hopsOf, pathOf, ownerOf, owned, pathsBelow, pathsOf, present, longest, nextHop, rest, first, listens, listensAt}
 use Rattle.rules.specs.Refusals.{_orElse_, hopsBad, vertexBad, unusedOf, fillerBad, twiceBad, lastBad, ownerBad, rankDue, rankBad, pathBad, inRecord, rule, recordRules, firstBroken, fault, faulty, firstBad, tooLong, ragged, refusal, refusedIf, refusedAt, badRecord}
-use Rattle.rules.specs.Greedy.{isSettled, compatible, atStart, best, judged, stage, settledList, settled, enters, quiet, stageCount, stageOf, stuckIn, follows, fromVertex, beforeVertex, closedPart, lowestOf, turned, ringFrom}
+use Rattle.rules.specs.Greedy.{isSettled, compatible, atStart, best, judged, stage, settledList, settled, enters, isQuiet, stagesFrom, stagesUntil, stageCount, stageOf, stuckIn, follows, fromVertex, beforeVertex, closedPart, lowestOf, turned, ringFrom}
 use Rattle.rules.specs.Stable.{extends, bestGiven}
 use Rattle.rules.specs.Report.{placeIn, rankIn, rowBytes, row, report}
 use Rattle.rules.specs.Machine.{Pair, offsetOf, speaks, byteFor, pathFor, badAt, badByte, heardFault, lastHeard, choice, step, standingOf, standing, movement}
@@ -94,7 +94,7 @@ unfolding refusedIf refusedAt _orElse_ otherLength scheduleBad firstBadPair runR
     hopsOf pathOf ownerOf owned pathsBelow pathsOf present longest nextHop rest first listens listensAt hopsBad
     vertexBad unusedOf fillerBad twice twiceBad lastBad ownerBad rankDue rankBad pathBad inRecord rule recordRules
     firstBroken fault faulty firstBad badRecord tooLong ragged refusal isSettled compatible atStart best judged stage
-    settledList settled enters quiet stageCount stageOf stuckIn follows fromVertex beforeVertex closedPart lowestOf
+    settledList settled enters isQuiet stagesFrom stagesUntil stageCount stageOf stuckIn follows fromVertex beforeVertex closedPart lowestOf
     turned ringFrom extends bestGiven placeIn rankIn rowBytes row report offsetOf speaks byteFor pathFor badAt badByte
     heardFault lastHeard choice step standingOf standing movement pairsIn isUp isDown more listeningOffsets closes
     begun activated run recordBytes blockBytes tableBytes table3 table7 unless checkRefusal checkNumbers stepRefusal

@@ -55,20 +55,30 @@ module _ (paths : ℕ → List Path) where
     unfoldable pub settled : ℕ → Settled
     settled k = let after = settledList k in λ v. getD after v none
 
-    -- whether v enters in the stage after k
+    -- whether v enters in the next stage, and whether nobody does
     unfoldable pub enters : Settled → ℕ → Bool
     enters S v = not (isSettled (S v)) && isSettled (stage S v)
 
-    -- "The first stage in which none enters isn't counted": the stage count s
-    unfoldable pub quiet : ℕ → Bool
-    quiet k = let S = settled k in not (anyBelow (enters S) 64)
+    unfoldable pub isQuiet : Settled → Bool
+    isQuiet S = not (anyBelow (enters S) 64)
 
+    -- how many stages pass until a test holds of what is settled, from such a list on and from the start; 64 are more than it takes
+    unfoldable pub stagesFrom : (Settled → Bool) → ℕ → List (Option Path) → ℕ
+    stagesFrom test zero list = 0
+    stagesFrom test (suc n) list =
+        let S : Settled = λ v. getD list v none in
+        elim (test S) [ true ↦ 0 | false ↦ suc (stagesFrom test n (tabulate (stage S) 64)) ]
+
+    unfoldable pub stagesUntil : (Settled → Bool) → ℕ
+    stagesUntil test = stagesFrom test 64 (tabulate atStart 64)
+
+    -- "The first stage in which none enters isn't counted": the stage count s
     unfoldable pub stageCount : ℕ
-    stageCount = elim (firstFrom quiet 0 64) [ none ↦ 64 | some s ↦ s ]
+    stageCount = stagesUntil isQuiet
 
     -- the stage at which v settled
     unfoldable pub stageOf : ℕ → ℕ
-    stageOf v = elim (firstFrom (λ k. isSettled (settled k v)) 0 64) [ none ↦ 64 | some k ↦ k ]
+    stageOf v = stagesUntil (λ S. isSettled (S v))
 
 -- "go to the next hop of its best compatible path"
 unfoldable pub follows : (ℕ → List Path) → Settled → ℕ → ℕ

@@ -14,7 +14,7 @@ use Rattle.lists.specs.Fill.{tabulate, blocks, padded}
 use Rattle.lists.specs.Fold.{foldLeft}
 use Rattle.rules.specs.Table.{Path, recordAt, records, rankOf, hopsOf, pathOf, ownerOf, owned, pathsBelow, pathsOf, present, longest, nextHop, rest, first, listens, listensAt}
 use Rattle.rules.specs.Refusals.{_orElse_, hopsBad, vertexBad, unusedOf, fillerBad, twiceBad, lastBad, ownerBad, rankDue, rankBad, pathBad, inRecord, rule, recordRules, firstBroken, fault, faulty, firstBad, tooLong, ragged, refusal, refusedIf, refusedAt, badRecord}
-use Rattle.rules.specs.Greedy.{isSettled, compatible, atStart, best, judged, stage, settledList, settled, enters, quiet, stageCount, stageOf, stuckIn, follows, fromVertex, beforeVertex, closedPart, lowestOf, turned, ringFrom}
+use Rattle.rules.specs.Greedy.{isSettled, compatible, atStart, best, judged, stage, settledList, settled, enters, isQuiet, stagesFrom, stagesUntil, stageCount, stageOf, stuckIn, follows, fromVertex, beforeVertex, closedPart, lowestOf, turned, ringFrom}
 use Rattle.rules.specs.Stable.{Stable, extends, bestGiven}
 use Rattle.rules.specs.Report.{placeIn, rankIn, rowBytes, row, rowAt, vertices, pathShown, report}
 use Rattle.rules.specs.Machine.{offsetOf, speaks, byteFor, pathFor, badAt, badByte, heardFault, lastHeard, choice, step}
@@ -57,7 +57,7 @@ unfolding refusedIf refusedAt _orElse_ outside firstFrom anyBelow
     hopsOf pathOf ownerOf owned pathsBelow pathsOf present longest nextHop rest first listens listensAt hopsBad vertexBad
     unusedOf fillerBad twice twiceBad lastBad ownerBad rankDue rankBad pathBad inRecord rule recordRules firstBroken
     fault faulty firstBad badRecord tooLong ragged refusal isSettled compatible atStart best judged stage settledList settled
-    enters quiet stageCount stageOf stuckIn follows fromVertex beforeVertex closedPart lowestOf turned ringFrom
+    enters isQuiet stagesFrom stagesUntil stageCount stageOf stuckIn follows fromVertex beforeVertex closedPart lowestOf turned ringFrom
     placeIn rankIn rowBytes row report rowAt vertices pathShown recordBytes blockBytes tableBytes lineOf checkedOf outcome
     disagree badGadget bleedinEdge diSafeGree checks
 published-checked = refl
