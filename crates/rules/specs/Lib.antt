@@ -11,7 +11,12 @@ pub mod Answers
 pub mod Text
 pub mod RunText
 pub mod Entries
--- The worked examples.
-pub mod Examples
+-- The worked examples: what is tried, the lists, and all of them in one statement.
+pub mod TriedExamples
+pub mod CheckExamples
+pub mod RefusalExamples
+pub mod RunExamples
 pub mod TextExamples
 pub mod EntryExamples
+pub mod SmallExamples
+pub mod Examples

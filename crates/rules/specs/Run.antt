@@ -1,12 +1,13 @@
 -- The rules page, "The machine", from the schedule on.
 use Prim.Native.Nat.{ℕ, zero, suc}
 use mathlib.Core.Bool.{Bool, true, false, not}
-use mathlib.Core.List.{List, [], _∷_}
+use mathlib.Core.List.{List, [], _∷_, map}
 use lib.ListN.{getD, set, replicate}
 use lib.IntN.{ℤ, pos, negsuc, _+ℤ_}
 use Rattle.lists.specs.Search.{anyIn, elem, same, thoseBelow}
+use Rattle.lists.specs.Fill.{blocks}
 use Rattle.lists.specs.Fold.{foldLeft}
-use Rattle.rules.specs.Table.{Path, listensAt}
+use Rattle.rules.specs.Table.{Path, leadsTo}
 use Rattle.rules.specs.Machine.{Pair, offsetOf, choice, step, movement}
 
 -- "A schedule is a list of pairs, two bytes each, listener first"
@@ -31,9 +32,12 @@ more true n = suc n
 more false n = n
 
 module _ (paths : ℕ → List Path) where
-  -- the offsets of all listening pairs, rising
+  -- the offsets of the pairs in which v listens, rising, and of all listening pairs
+  unfoldable pub offsetsOf : ℕ → List ℕ
+  offsetsOf v = let own = paths v in map (λ u. offsetOf (record { listener = v; speaker = u })) (thoseBelow (leadsTo own) 64)
+
   unfoldable pub listeningOffsets : List ℕ
-  listeningOffsets = thoseBelow (listensAt paths) 4096
+  listeningOffsets = blocks offsetsOf 64
 
 -- "a round closes as soon as every listening pair has been activated since the last closing. With no listening pair there are 0
 -- rounds."

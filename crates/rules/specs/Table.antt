@@ -80,9 +80,13 @@ unfoldable pub first : (Path → Bool) → List Path → Path
 first test [] = []
 first test (p ∷ ps) = elim (test p) [ true ↦ p | false ↦ first test ps ]
 
+-- whether some of these paths has u as its second vertex
+abbrev pub leadsTo : List Path → ℕ → Bool
+leadsTo own u = anyIn (λ p. eqb (nextHop p) u) own
+
 -- "Vertex v listens to u if some record of v has u as its second vertex."
 unfoldable pub listens : (ℕ → List Path) → ℕ → ℕ → Bool
-listens paths v u = anyIn (λ p. eqb (nextHop p) u) (paths v)
+listens paths v u = leadsTo (paths v) u
 
 -- The same by the pair's number, 64 times v plus u.
 unfoldable pub listensAt : (ℕ → List Path) → ℕ → Bool

@@ -1,0 +1,115 @@
+-- The rules page, "Tables tried by hand", tables 1 to 7, and checks in which all numbers differ, with every byte of the rows.
+use mathlib.Core.List.{List, [], _∷_, _++_}
+use lib.ListN.{replicate}
+use Rattle.rules.specs.Table.{Path}
+use Rattle.rules.specs.Answers.{complete, stuck}
+use Rattle.rules.specs.TriedExamples.{Example, tableBytes, shown, origin, absent, check, checked, _gives_}
+
+-- (1 0) is written 1 ∷ 0 ∷ [].
+abbrev pub table2 : List (List Path)
+table2 = ((1 ∷ 0 ∷ []) ∷ []) ∷ []
+
+abbrev pub table3 : List (List Path)
+table3 = ((1 ∷ 2 ∷ 0 ∷ []) ∷ (1 ∷ 0 ∷ []) ∷ []) ∷ ((2 ∷ 1 ∷ 0 ∷ []) ∷ (2 ∷ 0 ∷ []) ∷ []) ∷ []
+
+abbrev pub table4 : List (List Path)
+table4 =
+    ((1 ∷ 2 ∷ 0 ∷ []) ∷ (1 ∷ 0 ∷ []) ∷ [])
+    ∷ ((2 ∷ 3 ∷ 0 ∷ []) ∷ (2 ∷ 0 ∷ []) ∷ [])
+    ∷ ((3 ∷ 1 ∷ 0 ∷ []) ∷ (3 ∷ 0 ∷ []) ∷ [])
+    ∷ []
+
+abbrev pub table5 : List (List Path)
+table5 =
+    ((1 ∷ 0 ∷ []) ∷ [])
+    ∷ ((2 ∷ 3 ∷ 0 ∷ []) ∷ (2 ∷ 1 ∷ 0 ∷ []) ∷ (2 ∷ 0 ∷ []) ∷ [])
+    ∷ ((3 ∷ 2 ∷ 0 ∷ []) ∷ (3 ∷ 0 ∷ []) ∷ [])
+    ∷ []
+
+abbrev pub table6 : List (List Path)
+table6 = ((1 ∷ 2 ∷ 0 ∷ []) ∷ []) ∷ []
+
+abbrev pub table7 : List (List Path)
+table7 = ((1 ∷ 0 ∷ []) ∷ []) ∷ ((2 ∷ 1 ∷ 0 ∷ []) ∷ (2 ∷ 0 ∷ []) ∷ []) ∷ ((3 ∷ 2 ∷ 0 ∷ []) ∷ []) ∷ []
+
+-- Two rings, 4 5 10 and 2 3; the lowest stuck vertex, 1, lies on neither and meets its ring at 5; 63 would meet the other. 1 is stuck on
+-- its path of rank 2, 6 is only named, 12 settles without a path though it owns one, and 13 to 62 are absent.
+abbrev pub twoRings : List (List Path)
+twoRings =
+    ((1 ∷ 6 ∷ 0 ∷ []) ∷ (1 ∷ 5 ∷ 0 ∷ []) ∷ [])
+    ∷ ((2 ∷ 3 ∷ 0 ∷ []) ∷ (2 ∷ 0 ∷ []) ∷ [])
+    ∷ ((3 ∷ 2 ∷ 0 ∷ []) ∷ (3 ∷ 0 ∷ []) ∷ [])
+    ∷ ((4 ∷ 5 ∷ 0 ∷ []) ∷ (4 ∷ 0 ∷ []) ∷ [])
+    ∷ ((5 ∷ 10 ∷ 0 ∷ []) ∷ (5 ∷ 0 ∷ []) ∷ [])
+    ∷ ((7 ∷ 0 ∷ []) ∷ [])
+    ∷ ((8 ∷ 7 ∷ 0 ∷ []) ∷ [])
+    ∷ ((9 ∷ 6 ∷ 5 ∷ 4 ∷ 3 ∷ 2 ∷ 1 ∷ 10 ∷ 0 ∷ []) ∷ (9 ∷ 8 ∷ 7 ∷ 0 ∷ []) ∷ [])
+    ∷ ((10 ∷ 4 ∷ 0 ∷ []) ∷ (10 ∷ 0 ∷ []) ∷ [])
+    ∷ ((11 ∷ 9 ∷ 8 ∷ 7 ∷ 0 ∷ []) ∷ [])
+    ∷ ((12 ∷ 6 ∷ 0 ∷ []) ∷ [])
+    ∷ ((63 ∷ 2 ∷ 0 ∷ []) ∷ (63 ∷ 0 ∷ []) ∷ [])
+    ∷ []
+
+-- A path of twelve hops, from vertex 63, over routers that all wait.
+abbrev pub longPath : Path
+longPath = 63 ∷ 1 ∷ 2 ∷ 3 ∷ 4 ∷ 5 ∷ 6 ∷ 7 ∷ 8 ∷ 9 ∷ 10 ∷ 11 ∷ 0 ∷ []
+
+abbrev pub twelveHops : List (List Path)
+twelveHops =
+    ((1 ∷ 2 ∷ 0 ∷ []) ∷ [])
+    ∷ ((2 ∷ 1 ∷ 0 ∷ []) ∷ [])
+    ∷ ((3 ∷ 1 ∷ 0 ∷ []) ∷ [])
+    ∷ ((4 ∷ 1 ∷ 0 ∷ []) ∷ [])
+    ∷ ((5 ∷ 1 ∷ 0 ∷ []) ∷ [])
+    ∷ ((6 ∷ 1 ∷ 0 ∷ []) ∷ [])
+    ∷ ((7 ∷ 1 ∷ 0 ∷ []) ∷ [])
+    ∷ ((8 ∷ 1 ∷ 0 ∷ []) ∷ [])
+    ∷ ((9 ∷ 1 ∷ 0 ∷ []) ∷ [])
+    ∷ ((10 ∷ 1 ∷ 0 ∷ []) ∷ [])
+    ∷ ((11 ∷ 1 ∷ 0 ∷ []) ∷ [])
+    ∷ (longPath ∷ [])
+    ∷ []
+
+unfoldable pub checkExamples : List Example
+checkExamples =
+    -- 1. Empty: complete, s 0, L 0.
+    (check [] gives checked complete (0 ∷ 0 ∷ 0 ∷ 0 ∷ 0 ∷ []) (origin ++ absent 63) (replicate 64 255))
+    -- 2. One direct path.
+    ∷ (check (tableBytes table2) gives checked complete (0 ∷ 1 ∷ 0 ∷ 1 ∷ 1 ∷ []) (origin ++ shown 1 1 1 (1 ∷ 0 ∷ []) ++ absent 62) (replicate 64 255))
+    -- 3. Two routers that each prefer the other.
+    ∷ (check (tableBytes table3) gives checked (stuck 2) (2 ∷ 0 ∷ 2 ∷ 0 ∷ 2 ∷ [])
+    (origin ++ shown 255 1 2 (1 ∷ 2 ∷ 0 ∷ []) ++ shown 255 1 2 (2 ∷ 1 ∷ 0 ∷ []) ++ absent 61)
+    (1 ∷ 2 ∷ replicate 62 255))
+    -- 4. A ring of three.
+    ∷ (check (tableBytes table4) gives checked (stuck 3) (3 ∷ 0 ∷ 3 ∷ 0 ∷ 2 ∷ [])
+    (origin ++ shown 255 1 2 (1 ∷ 2 ∷ 0 ∷ []) ++ shown 255 1 2 (2 ∷ 3 ∷ 0 ∷ []) ++ shown 255 1 2 (3 ∷ 1 ∷ 0 ∷ []) ++ absent 60)
+    (1 ∷ 2 ∷ 3 ∷ replicate 61 255))
+    -- 5. Stage 1, then a ring of two.
+    ∷ (check (tableBytes table5) gives checked (stuck 2) (2 ∷ 1 ∷ 2 ∷ 1 ∷ 2 ∷ [])
+    (origin ++ shown 1 1 1 (1 ∷ 0 ∷ []) ++ shown 255 1 2 (2 ∷ 3 ∷ 0 ∷ []) ++ shown 255 1 2 (3 ∷ 2 ∷ 0 ∷ []) ++ absent 60)
+    (2 ∷ 3 ∷ replicate 62 255))
+    -- 6. A vertex that only others name.
+    ∷ (check (tableBytes table6) gives checked complete (0 ∷ 2 ∷ 0 ∷ 2 ∷ 2 ∷ []) (origin ++ shown 2 0 0 [] ++ shown 1 0 0 [] ++ absent 61) (replicate 64 255))
+    -- 7. Three stages.
+    ∷ (check (tableBytes table7) gives checked complete (0 ∷ 3 ∷ 0 ∷ 3 ∷ 2 ∷ [])
+    (origin ++ shown 1 1 1 (1 ∷ 0 ∷ []) ++ shown 2 1 2 (2 ∷ 1 ∷ 0 ∷ []) ++ shown 3 0 0 [] ++ absent 60)
+    (replicate 64 255))
+    -- ring 3, settled 6, stuck 7, s 4, L 8
+    ∷ (check (tableBytes twoRings) gives checked (stuck 3) (3 ∷ 6 ∷ 7 ∷ 4 ∷ 8 ∷ [])
+    (origin
+    ++ shown 255 2 2 (1 ∷ 5 ∷ 0 ∷ [])
+    ++ shown 255 1 2 (2 ∷ 3 ∷ 0 ∷ [])
+    ++ shown 255 1 2 (3 ∷ 2 ∷ 0 ∷ [])
+    ++ shown 255 1 2 (4 ∷ 5 ∷ 0 ∷ [])
+    ++ shown 255 1 2 (5 ∷ 10 ∷ 0 ∷ [])
+    ++ shown 1 0 0 []
+    ++ shown 1 1 1 (7 ∷ 0 ∷ [])
+    ++ shown 2 1 2 (8 ∷ 7 ∷ 0 ∷ [])
+    ++ shown 3 2 3 (9 ∷ 8 ∷ 7 ∷ 0 ∷ [])
+    ++ shown 255 1 2 (10 ∷ 4 ∷ 0 ∷ [])
+    ++ shown 4 1 4 (11 ∷ 9 ∷ 8 ∷ 7 ∷ 0 ∷ [])
+    ++ shown 2 0 0 []
+    ++ absent 50
+    ++ shown 255 1 2 (63 ∷ 2 ∷ 0 ∷ []))
+    (4 ∷ 5 ∷ 10 ∷ replicate 61 255))
+    ∷ []

@@ -1,0 +1,70 @@
+-- Single definitions by their numbers: what no table above brings, bounds that only larger ones meet, and a table of 63 stages.
+use Prim.Native.Nat.{ℕ, zero, suc}
+use mathlib.Core.Bool.{Bool, true, false}
+use mathlib.Core.List.{List, [], _∷_, _++_}
+use lib.ListN.{replicate}
+use lib.IntN.{pos, negsuc}
+use lib.Dec.{eqb, ltb}
+use Rattle.rules.specs.Table.{Path, slotsOf, nextHop}
+use Rattle.rules.specs.Greedy.{stageOf, lowestOf, ringFrom}
+use Rattle.rules.specs.Report.{rowAt, vertices, pathShown}
+use Rattle.rules.specs.Machine.{lastHeard}
+use Rattle.rules.specs.Run.{listeningOffsets}
+use Rattle.rules.specs.Answers.{choicesIn}
+use Rattle.rules.specs.Entries.{fourBytes, sumBytes}
+use Rattle.rules.specs.Text.{codes, decimal, placeWords}
+use Rattle.rules.specs.RunText.{signed}
+use Rattle.rules.specs.TriedExamples.{Example, tableBytes, shown, alone, counts, _gives_}
+use Rattle.rules.specs.CheckExamples.{table3, table7}
+
+-- lists end to end
+unfoldable pub flat : List (List ℕ) → List ℕ
+flat [] = []
+flat (l ∷ ls) = l ++ flat ls
+
+-- each vertex but 63 has one path, over the vertex above it: 63 settles first, and each stage shuts out the next path
+abbrev pub oneAfterAnother : ℕ → List Path
+oneAfterAnother v = elim (eqb v 63) [ true ↦ [] | false ↦ (v ∷ suc v ∷ 0 ∷ []) ∷ [] ]
+
+-- from 63 on everybody listens to 63 and to 0
+abbrev pub lastOnes : ℕ → List Path
+lastOnes v = elim (ltb v 63) [ true ↦ [] | false ↦ (v ∷ 63 ∷ 0 ∷ []) ∷ (v ∷ 0 ∷ []) ∷ [] ]
+
+-- the vertex after v, of 64 in a circle
+abbrev pub around : ℕ → ℕ
+around v = elim (eqb v 63) [ true ↦ 0 | false ↦ suc v ]
+
+-- the numbers from i on, n of them
+unfoldable pub rising : ℕ → ℕ → List ℕ
+rising zero i = []
+rising (suc n) i = i ∷ rising n (suc i)
+
+unfoldable pub smallExamples : List Example
+smallExamples =
+    -- the slots of the first three records of table 3: 1 owns two, 2 one
+    (alone (flat (slotsOf (tableBytes table3) 3)) gives counts (replicate 16 65535 ++ 0 ∷ 1 ∷ replicate 14 65535 ++ 2 ∷ replicate 15 65535 ++ replicate 976 65535))
+    -- "The stage count s is 0 to 63": vertex 1 settles at stage 63
+    ∷ (alone (stageOf oneAfterAnother (λ v. true) 1 ∷ []) gives counts (63 ∷ []))
+    -- a walk through 64 vertices; the lowest of a ring; no ring, no path
+    ∷ (alone (ringFrom (λ v. eqb v 63) around) gives counts (rising 64 0))
+    ∷ (alone (lowestOf (63 ∷ []) ∷ lowestOf [] ∷ nextHop [] ∷ []) gives counts (63 ∷ 0 ∷ 0 ∷ []))
+    -- the choices of all 64, 0 among them, where 2 has heard (0) and 3 has heard (2 0); and of a refused table
+    ∷ (alone (choicesIn (tableBytes table7) (replicate 128 0 ++ 1 ∷ replicate 65 0 ++ 2 ∷ [])) gives counts (1 ∷ 0 ∷ 2 ∷ 1 ∷ replicate 60 0))
+    ∷ (alone (choicesIn (0 ∷ []) (replicate 4096 0)) gives counts (replicate 64 0))
+    -- nothing is heard from a vertex above 63, though its byte would be another's
+    ∷ (alone (lastHeard lastOnes (replicate 256 1) 1 64 ++ lastHeard lastOnes (replicate 256 1) 1 63) gives counts (63 ∷ 63 ∷ 0 ∷ []))
+    -- the listening pairs among 4,096
+    ∷ (alone (listeningOffsets lastOnes) gives counts (4032 ∷ 4095 ∷ []))
+    -- what a row shows: the path, or none; the row of a vertex
+    ∷ (alone (pathShown (shown 1 2 3 (4 ∷ 5 ∷ 6 ∷ 0 ∷ [])) ++ pathShown (shown 1 0 0 []) ++ vertices (7 ∷ 255 ∷ 8 ∷ [])) gives counts (4 ∷ 5 ∷ 6 ∷ 0 ∷ 7 ∷ []))
+    ∷ (alone (rowAt (rising 48 0) 1) gives counts (rising 16 16))
+    -- "four bytes each, low byte first"; "negative numbers are two's complement"
+    ∷ (alone (fourBytes 16909060) gives counts (4 ∷ 3 ∷ 2 ∷ 1 ∷ []))
+    ∷ (alone (sumBytes (pos 65536 ∷ negsuc 0 ∷ negsuc 15 ∷ [])) gives counts (0 ∷ 0 ∷ 1 ∷ 0 ∷ 255 ∷ 255 ∷ 255 ∷ 255 ∷ 240 ∷ 255 ∷ 255 ∷ 255 ∷ replicate 244 0))
+    -- a text's letters
+    ∷ (alone (codes "r0\n") gives counts (114 ∷ 48 ∷ 10 ∷ []))
+    -- printed numbers: 0, ten digits, the last ten of eleven, and with a sign
+    ∷ (alone (decimal 0 ++ codes " " ++ decimal 4294967295 ++ codes " " ++ decimal 12345678901 ++ codes " " ++ signed (negsuc 15) ++ signed (pos 16)) gives counts (codes "0 4294967295 2345678901 -1616"))
+    -- the word before a place
+    ∷ (alone (placeWords 3 1 ++ placeWords 4 2 ++ placeWords 11 3 ++ placeWords 12 4 ++ placeWords 13 5 ++ placeWords 14 6 ++ placeWords 15 7) gives counts (codes " record 2 record 3 offset 4 pair 6"))
+    ∷ []
