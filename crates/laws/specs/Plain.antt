@@ -1,0 +1,79 @@
+-- The rules page in plain words: what a table has to keep, and which refusal it gets, over its bytes alone. Nothing of `rules` is in here.
+use mathlib.Core.Path.{_≡_}
+use mathlib.Core.Logic.{_≢_}
+use mathlib.Core.List.{List}
+use Prim.Native.Nat.{ℕ, suc, _+_, _*_, _/_, _%_, _<_, _≤_}
+use lib.ListN.{length, getD}
+
+-- Byte k of record i: "Records of 16 bytes, no header."
+abbrev pub byteAt : List ℕ → ℕ → ℕ → ℕ
+byteAt t i k = getD t (16 * i + k) 0
+
+-- "0: rank", "1: hops h", "2 to 2+h: h+1 vertices, owner first".
+abbrev pub rankByte : List ℕ → ℕ → ℕ
+rankByte t i = byteAt t i 0
+
+abbrev pub hopsByte : List ℕ → ℕ → ℕ
+hopsByte t i = byteAt t i 1
+
+abbrev pub vertexByte : List ℕ → ℕ → ℕ → ℕ
+vertexByte t i k = byteAt t i (2 + k)
+
+abbrev pub ownerByte : List ℕ → ℕ → ℕ
+ownerByte t i = vertexByte t i 0
+
+-- 10: the rank is at most 16; it is 1 for a new owner, and otherwise one more than that of the record j before.
+pub record RankRight (t : List ℕ) (i : ℕ) : Type 0 where
+  pub most : rankByte t i ≤ 16
+  pub start : i ≡ 0 → rankByte t i ≡ 1
+  pub new : (j : ℕ) → suc j ≡ i → ownerByte t j ≢ ownerByte t i → rankByte t i ≡ 1
+  pub next : (j : ℕ) → suc j ≡ i → ownerByte t j ≡ ownerByte t i → rankByte t i ≡ suc (rankByte t j)
+
+-- The records j and i have the same hops and the same vertices.
+pub record SamePath (t : List ℕ) (j i : ℕ) : Type 0 where
+  pub hops : hopsByte t j ≡ hopsByte t i
+  pub vertices : (k : ℕ) → k ≤ hopsByte t i → vertexByte t j k ≡ vertexByte t i k
+
+-- Record i keeps the rule with the page's number n; a number that is none of 4 to 11 is kept by every record.
+pub record Keeps (t : List ℕ) (i n : ℕ) : Type 0 where
+  -- 4: hops are 1 to 12
+  pub hops : n ≡ 4 → (1 ≤ hopsByte t i) × (hopsByte t i ≤ 12)
+  -- 5: none of the h+1 vertices is above 63
+  pub vertices : n ≡ 5 → (k : ℕ) → k ≤ hopsByte t i → vertexByte t i k ≤ 63
+  -- 6: every byte behind the vertices is 255, up to byte 14, and byte 15 is 0
+  pub unused : n ≡ 6 → ((k : ℕ) → 3 + hopsByte t i ≤ k → k ≤ 14 → byteAt t i k ≡ 255) × (byteAt t i 15 ≡ 0)
+  -- 7: no two vertices are equal
+  pub once : n ≡ 7 → (j k : ℕ) → j < k → k ≤ hopsByte t i → vertexByte t i j ≢ vertexByte t i k
+  -- 8: the last vertex is 0
+  pub last : n ≡ 8 → vertexByte t i (hopsByte t i) ≡ 0
+  -- 9: the owner of the record j before, if there is one, is not above this one's
+  pub owner : n ≡ 9 → (j : ℕ) → suc j ≡ i → ownerByte t j ≤ ownerByte t i
+  -- 10: the rank is the one that is due
+  pub rank : n ≡ 10 → RankRight t i
+  -- 11: no earlier record has the same path
+  pub path : n ≡ 11 → (j : ℕ) → j < i → SamePath t j i → ⊥
+
+-- An accepted table: "At most .. 16,128 bytes", records of 16 bytes, and each of them keeps every rule.
+pub record RightTable (t : List ℕ) : Type 0 where
+  pub short : length t ≤ 16128
+  pub whole : length t % 16 ≡ 0
+  pub kept : (i : ℕ) → i < length t / 16 → (n : ℕ) → Keeps t i n
+
+-- 2: "table longer than 16,128 bytes".
+abbrev pub LongTable : List ℕ → Type 0
+LongTable t = 16128 < length t
+
+-- 3: "table length not a multiple of 16", where 2 does not hold.
+pub record RaggedTable (t : List ℕ) : Type 0 where
+  pub short : length t ≤ 16128
+  pub ragged : length t % 16 ≢ 0
+
+-- 4 to 11: "The first bad record decides; within it, 4 to 11 in that order." Rule n is the first that record i breaks, and every earlier
+-- record keeps all of them.
+pub record FirstFault (t : List ℕ) (n i : ℕ) : Type 0 where
+  pub short : length t ≤ 16128
+  pub whole : length t % 16 ≡ 0
+  pub within : i < length t / 16
+  pub earlier : (j : ℕ) → j < i → (m : ℕ) → Keeps t j m
+  pub before : (m : ℕ) → m < n → Keeps t i m
+  pub broken : Keeps t i n → ⊥
