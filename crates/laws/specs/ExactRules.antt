@@ -25,23 +25,23 @@ none-in test l d f = by-test (anyIn test l) (λ q. let r = some-at test l d q in
 -- the bytes of a record, read through the definitions
 
 module _ (t : List ℕ) (i : ℕ) where
-  byte : (k : ℕ) → k < 16 → getD (recordAt t i) k 0 ≡ byteAt t i k
+  pub byte : (k : ℕ) → k < 16 → getD (recordAt t i) k 0 ≡ byteAt t i k
   unfolding recordAt
   byte k h = getD-take 16 (drop (16 * i) t) k 0 h ∙ getD-drop (16 * i) t k 0
 
-  rank-is : rankAt t i ≡ rankByte t i
+  pub rank-is : rankAt t i ≡ rankByte t i
   unfolding rankOf
   rank-is = byte 0 (omega arith)
 
-  hops-is : hopsAt t i ≡ hopsByte t i
+  pub hops-is : hopsAt t i ≡ hopsByte t i
   unfolding hopsOf
   hops-is = byte 1 (omega arith)
 
-  owner-is : ownerAt t i ≡ ownerByte t i
+  pub owner-is : ownerAt t i ≡ ownerByte t i
   unfolding ownerOf
   owner-is = byte 2 (omega arith)
 
-  vertex-is : (k : ℕ) → k ≤ hopsByte t i → k ≤ 12 → getD (pathAt t i) k 0 ≡ vertexByte t i k
+  pub vertex-is : (k : ℕ) → k ≤ hopsByte t i → k ≤ 12 → getD (pathAt t i) k 0 ≡ vertexByte t i k
   unfolding pathOf
   vertex-is k h l =
       getD-take (suc (hopsAt t i)) (drop 2 (recordAt t i)) k 0 (omega (arith, hops-is)) ∙ getD-drop 2 (recordAt t i) k 0

@@ -8,6 +8,7 @@ pub mod Sanity
 pub mod Plain
 pub mod ExactRules
 pub mod Exact
+pub mod ExactHeard
 -- The laws of the definitions that those and the proofs of the code use.
 pub mod TableLaws
 pub mod PassLaws

@@ -1,9 +1,12 @@
--- The rules page in plain words: what a table has to keep, and which refusal it gets, over its bytes alone. Nothing of `rules` is in here.
+-- The rules page in plain words: what a table has to keep, which refusal it gets, and what a bad byte and a bad pair are. Nothing of
+-- `rules` is in here.
 use mathlib.Core.Path.{_≡_}
-use mathlib.Core.Logic.{_≢_}
-use mathlib.Core.List.{List}
+use mathlib.Core.Logic.{_≢_, _⊎_}
+use mathlib.Core.List.{List, []}
 use Prim.Native.Nat.{ℕ, suc, _+_, _*_, _/_, _%_, _<_, _≤_}
 use lib.ListN.{length, getD}
+use lib.Dec.{eqb}
+use Rattle.lists.specs.Search.{countBelow}
 
 -- Byte k of record i: "Records of 16 bytes, no header."
 abbrev pub byteAt : List ℕ → ℕ → ℕ → ℕ
@@ -77,3 +80,39 @@ pub record FirstFault (t : List ℕ) (n i : ℕ) : Type 0 where
   pub earlier : (j : ℕ) → j < i → (m : ℕ) → Keeps t j m
   pub before : (m : ℕ) → m < n → Keeps t i m
   pub broken : Keeps t i n → ⊥
+
+-- The lowest number of a kind.
+pub record Lowest (P : ℕ → Type 0) (k : ℕ) : Type 0 where
+  pub holds : P k
+  pub lowest : (j : ℕ) → j < k → P j → ⊥
+
+-- "Vertex v listens to u if some record of v has u as its second vertex."
+pub record ListensIn (t : List ℕ) (v u : ℕ) : Type 0 where
+  pub place : ℕ
+  pub within : place < length t / 16
+  pub owner : ownerByte t place ≡ v
+  pub second : vertexByte t place 1 ≡ u
+
+-- the number of u's records
+abbrev pub recordsOf : List ℕ → ℕ → ℕ
+recordsOf t u = countBelow (λ i. eqb (ownerByte t i) u) (length t / 16)
+
+-- The same of the permitted paths of each vertex.
+pub record ListensAmong (paths : ℕ → List (List ℕ)) (v u : ℕ) : Type 0 where
+  pub place : ℕ
+  pub within : place < length (paths v)
+  pub second : getD (getD (paths v) place []) 1 0 ≡ u
+
+-- 12: the byte at k, which is 64v+u, is not 0, and v does not listen to u, or the byte is above the number of u's records, or above 1 for
+-- u = 0.
+pub record BadByte (Listens : ℕ → ℕ → Type 0) (number : ℕ → ℕ) (heard : List ℕ) (k : ℕ) : Type 0 where
+  pub under : k < length heard
+  pub something : getD heard k 0 ≢ 0
+  pub wrong : (Listens (k / 64) (k % 64) → ⊥)
+      ⊎ ((k % 64 ≡ 0) × (1 < getD heard k 0))
+      ⊎ ((k % 64 ≢ 0) × (number (k % 64) < getD heard k 0))
+
+-- 14: the pair k of a schedule, "two bytes each, listener first", does not listen.
+pub record BadPair (Listens : ℕ → ℕ → Type 0) (schedule : List ℕ) (k : ℕ) : Type 0 where
+  pub under : k < length schedule / 2
+  pub silent : Listens (getD schedule (2 * k) 0) (getD schedule (2 * k + 1) 0) → ⊥
