@@ -52,7 +52,12 @@ module _ {A : Type 0} (test : ℕ → A → Bool) (d : A) where
 
   data Seek (l : List A) (i : ℕ) : Type 0 where
     nowhere : firstIn test i l ≡ none → ((k : ℕ) → k < length l → passes l i k ≡ false) → Seek l i
-    somewhere : (k : ℕ) → firstIn test i l ≡ some (i + k) → k < length l → passes l i k ≡ true → ((j : ℕ) → j < k → passes l i j ≡ false) → Seek l i
+    somewhere : (k : ℕ)
+        → firstIn test i l ≡ some (i + k)
+        → k < length l
+        → passes l i k ≡ true
+        → ((j : ℕ) → j < k → passes l i j ≡ false)
+        → Seek l i
 
   -- one element more in front, which fails
   module _ (x : A) (xs : List A) (i : ℕ) (q : test i x ≡ false) where

@@ -9,6 +9,7 @@ pub mod Plain
 pub mod ExactRules
 pub mod Exact
 pub mod ExactHeard
+pub mod ExactRun
 -- The laws of the definitions that those and the proofs of the code use.
 pub mod TableLaws
 pub mod PassLaws

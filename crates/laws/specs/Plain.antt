@@ -116,3 +116,8 @@ pub record BadByte (Listens : ℕ → ℕ → Type 0) (number : ℕ → ℕ) (he
 pub record BadPair (Listens : ℕ → ℕ → Type 0) (schedule : List ℕ) (k : ℕ) : Type 0 where
   pub under : k < length schedule / 2
   pub silent : Listens (getD schedule (2 * k) 0) (getD schedule (2 * k + 1) 0) → ⊥
+
+-- The greatest number of a kind.
+pub record Greatest (P : ℕ → Type 0) (k : ℕ) : Type 0 where
+  pub holds : P k
+  pub greatest : (j : ℕ) → k < j → P j → ⊥
