@@ -10,6 +10,7 @@ pub mod ExactRules
 pub mod Exact
 pub mod ExactHeard
 pub mod ExactRun
+pub mod ExactRing
 -- The laws of the definitions that those and the proofs of the code use.
 pub mod TableLaws
 pub mod PassLaws

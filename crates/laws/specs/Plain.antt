@@ -2,8 +2,9 @@
 -- `rules` is in here.
 use mathlib.Core.Path.{_≡_}
 use mathlib.Core.Logic.{_≢_, _⊎_}
+use mathlib.Core.Bool.{Bool, true}
 use mathlib.Core.List.{List, []}
-use Prim.Native.Nat.{ℕ, suc, _+_, _*_, _/_, _%_, _<_, _≤_}
+use Prim.Native.Nat.{ℕ, zero, suc, _+_, _*_, _/_, _%_, _<_, _≤_}
 use lib.ListN.{length, getD}
 use lib.Dec.{eqb}
 use Rattle.lists.specs.Search.{countBelow}
@@ -121,3 +122,26 @@ pub record BadPair (Listens : ℕ → ℕ → Type 0) (schedule : List ℕ) (k :
 pub record Greatest (P : ℕ → Type 0) (k : ℕ) : Type 0 where
   pub holds : P k
   pub greatest : (j : ℕ) → k < j → P j → ⊥
+
+-- Where n steps from v lead.
+unfoldable pub after : (ℕ → ℕ) → ℕ → ℕ → ℕ
+after next zero v = v
+after next (suc n) v = next (after next n v)
+
+-- "Start at the lowest stuck vertex and follow until a vertex repeats. The closed part, beginning at its lowest vertex and in following
+-- order, is the ring (2 vertices or more)."
+pub record RingMet (stuck : ℕ → Bool) (next : ℕ → ℕ) (ring : List ℕ) : Type 0 where
+  -- the walk starts at the lowest stuck vertex
+  pub start : ℕ
+  pub lowest : Lowest (λ v. stuck v ≡ true) start
+  -- after so many steps it is in the closed part, and goes round in it: that is its first repetition
+  pub entered : ℕ
+  pub two : 2 ≤ length ring
+  pub closes : after next (entered + length ring) start ≡ after next entered start
+  pub apart : (i j : ℕ) → i < j → j < entered + length ring → after next i start ≢ after next j start
+  -- after so many steps more it is at the ring's beginning, and then goes through the ring in order
+  pub turned : ℕ
+  pub round : turned < length ring
+  pub order : (k : ℕ) → k < length ring → getD ring k 0 ≡ after next (entered + turned + k) start
+  -- the ring begins at its lowest vertex
+  pub low : (k : ℕ) → k < length ring → getD ring 0 0 ≤ getD ring k 0
