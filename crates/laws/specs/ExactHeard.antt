@@ -23,7 +23,7 @@ use Rattle.laws.specs.Blocks.{here, paths-length, path-in-block}
 use Rattle.laws.specs.MachineLaws.{speaks-destination, speaks-other}
 use Rattle.laws.specs.ScheduleLaws.{pairs-length, pairs-at}
 use Rattle.laws.specs.RunLaws.{noPair}
-use Rattle.laws.specs.Plain.{ownerByte, vertexByte, Lowest, ListensIn, recordsOf, ListensAmong, BadByte, BadPair}
+use Rattle.laws.specs.Plain.{ownerByte, vertexByte, Lowest, ListensIn, recordsOf, ListensAmong, TooHigh, BadByte, BadPair}
 use Rattle.laws.specs.ExactRules.{owner-is, vertex-is}
 use Rattle.laws.specs.Exact.{exact-table}
 
@@ -33,7 +33,11 @@ pub record Tells (found : Option ℕ) (P : ℕ → Type 0) : Type 0 where
   pub nothing : (found ≡ none) ↔ ((k : ℕ) → P k → ⊥)
 
 -- it tells as much of a kind that is the same
-tells-same : (found : Option ℕ) (P Q : ℕ → Type 0) → ((k : ℕ) → P k → Q k) → ((k : ℕ) → Q k → P k) → Tells found P → Tells found Q
+tells-same : (found : Option ℕ) (P Q : ℕ → Type 0)
+    → ((k : ℕ) → P k → Q k)
+    → ((k : ℕ) → Q k → P k)
+    → Tells found P
+    → Tells found Q
 tells-same found P Q f g s =
     record {
       place = λ k. (
@@ -131,7 +135,7 @@ module _ (paths : ℕ → List Path) where
 
   -- above what u can speak of
   abbrev High : ℕ → ℕ → Type 0
-  High u b = ((u ≡ 0) × (1 < b)) ⊎ ((u ≢ 0) × (length (paths u) < b))
+  High = TooHigh (λ u. length (paths u))
 
   high : (u b : ℕ) → length (speaks paths u) < b → High u b
   high u b h =

@@ -16,10 +16,12 @@ use Rattle.lists.specs.ListLaws.{none-at, some-at, differ, differs, twice-apart
 use Rattle.rules.specs.Table.{Path, records, recordAt, rankOf, hopsOf, pathOf, ownerOf, rankAt, hopsAt, pathAt, ownerAt}
 use Rattle.rules.specs.Refusals.{Rule, rule, inRecord, recordRules, firstBroken, fault, unusedOf, hopsBad, vertexBad, fillerBad, twiceBad, lastBad, ownerBad, rankDue, rankBad, pathBad}
 use Rattle.laws.specs.TableLaws.{rule-broken, rule-kept, due-same, due-new, record-length}
-use Rattle.laws.specs.Plain.{byteAt, rankByte, hopsByte, vertexByte, ownerByte, RankRight, SamePath, Keeps}
+use Rattle.laws.specs.Plain.{byteAt, rankByte, hopsByte, vertexByte, ownerByte, HopsRight, VerticesRight, UnusedRight, OnceEach, LastRight, OwnerRight, RankRight, SamePath, PathNew, Keeps}
 
 -- a list in which every element fails has none that passes
-none-in : {A : Type 0} (test : A → Bool) (l : List A) (d : A) → ((k : ℕ) → k < length l → test (getD l k d) ≡ false) → anyIn test l ≡ false
+none-in : {A : Type 0} (test : A → Bool) (l : List A) (d : A)
+    → ((k : ℕ) → k < length l → test (getD l k d) ≡ false)
+    → anyIn test l ≡ false
 none-in test l d f = by-test (anyIn test l) (λ q. let r = some-at test l d q in absurd (true≢ (r .2) (f (r .0) (r .1)))) (λ q. q)
 
 -- the bytes of a record, read through the definitions
@@ -64,7 +66,7 @@ module _ (t : List ℕ) (i : ℕ) where
         path = λ e. absurd (f (omega arith) (omega arith));
       }
 
-  keeps-4 : (1 ≤ hopsByte t i) × (hopsByte t i ≤ 12) → Keeps t i 4
+  keeps-4 : HopsRight t i → Keeps t i 4
   keeps-4 h =
       record {
         hops = λ e. h;
@@ -77,7 +79,7 @@ module _ (t : List ℕ) (i : ℕ) where
         path = λ e. absurd (omega arith);
       }
 
-  keeps-5 : ((k : ℕ) → k ≤ hopsByte t i → vertexByte t i k ≤ 63) → Keeps t i 5
+  keeps-5 : VerticesRight t i → Keeps t i 5
   keeps-5 h =
       record {
         hops = λ e. absurd (omega arith);
@@ -90,7 +92,7 @@ module _ (t : List ℕ) (i : ℕ) where
         path = λ e. absurd (omega arith);
       }
 
-  keeps-6 : ((k : ℕ) → 3 + hopsByte t i ≤ k → k ≤ 14 → byteAt t i k ≡ 255) × (byteAt t i 15 ≡ 0) → Keeps t i 6
+  keeps-6 : UnusedRight t i → Keeps t i 6
   keeps-6 h =
       record {
         hops = λ e. absurd (omega arith);
@@ -103,7 +105,7 @@ module _ (t : List ℕ) (i : ℕ) where
         path = λ e. absurd (omega arith);
       }
 
-  keeps-7 : ((j k : ℕ) → j < k → k ≤ hopsByte t i → vertexByte t i j ≢ vertexByte t i k) → Keeps t i 7
+  keeps-7 : OnceEach t i → Keeps t i 7
   keeps-7 h =
       record {
         hops = λ e. absurd (omega arith);
@@ -116,7 +118,7 @@ module _ (t : List ℕ) (i : ℕ) where
         path = λ e. absurd (omega arith);
       }
 
-  keeps-8 : vertexByte t i (hopsByte t i) ≡ 0 → Keeps t i 8
+  keeps-8 : LastRight t i → Keeps t i 8
   keeps-8 h =
       record {
         hops = λ e. absurd (omega arith);
@@ -129,7 +131,7 @@ module _ (t : List ℕ) (i : ℕ) where
         path = λ e. absurd (omega arith);
       }
 
-  keeps-9 : ((j : ℕ) → suc j ≡ i → ownerByte t j ≤ ownerByte t i) → Keeps t i 9
+  keeps-9 : OwnerRight t i → Keeps t i 9
   keeps-9 h =
       record {
         hops = λ e. absurd (omega arith);
@@ -155,7 +157,7 @@ module _ (t : List ℕ) (i : ℕ) where
         path = λ e. absurd (omega arith);
       }
 
-  keeps-11 : ((j : ℕ) → j < i → SamePath t j i → ⊥) → Keeps t i 11
+  keeps-11 : PathNew t i → Keeps t i 11
   keeps-11 h =
       record {
         hops = λ e. absurd (omega arith);
@@ -180,7 +182,7 @@ module _ (t : List ℕ) (i : ℕ) where
   unfolding hopsBad
   says-4 =
       record {
-        keeps = λ e. keeps-4 t i (rw (hops-is t i) at (inside 1 12 (hopsAt t i) e));
+        keeps = λ e. let x = inside 1 12 (hopsAt t i) e in keeps-4 t i (omega (arith, hops-is t i));
         fails = λ k. let h = k .hops refl in is-inside 1 12 (hopsAt t i) (omega (arith, hops-is t i)) (omega (arith, hops-is t i));
       }
 
@@ -288,19 +290,19 @@ module _ (t : List ℕ) (i : ℕ) (h : i < records t) (small : hopsByte t i ≤ 
       let end-is = byte t i 15 (omega arith) in
       record {
         keeps = λ e. let r = or-none any (outside 0 0 end) e in
-            keeps-6 t i (
-              λ k lo hi. let n = k - (3 + hopsByte t i) in
+            keeps-6 t i (record {
+              filled = λ k lo hi. let n = k - (3 + hopsByte t i) in
                   let x = inside 255 255 (getD (unusedOf (recordAt t i)) n 0)
                   (none-at (outside 255 255) (unusedOf (recordAt t i)) 0 (r .0) n (omega (arith, unused-length))) in
-                  omega (arith, unused-at k lo hi),
-              let x = inside 0 0 end (r .1) in omega arith,
-            );
+                  omega (arith, unused-at k lo (omega arith));
+              end = let x = inside 0 0 end (r .1) in omega arith;
+            });
         fails = λ r. let u = r .unused refl in
             neither any (outside 0 0 end)
             (none-in (outside 255 255) (unusedOf (recordAt t i)) 0 (λ k l. let m : k < 12 - hopsByte t i = omega (arith, unused-length) in
-            let x = u .0 (3 + hopsByte t i + k) (omega arith) (omega arith) in
+            let x = u .filled (3 + hopsByte t i + k) (omega arith) (omega arith) in
             is-inside 255 255 (getD (unusedOf (recordAt t i)) k 0) (omega (arith, unused-byte k m)) (omega (arith, unused-byte k m))))
-            (is-inside 0 0 end (omega arith) (omega (arith, u .1)));
+            (is-inside 0 0 end (omega arith) (omega (arith, u .end)));
       }
 
   says-7 : Says t i 7 (twiceBad (recordAt t i))

@@ -49,10 +49,15 @@ module _ (paths : ℕ → List Path) (heard : List ℕ) (s : List Pair) where
 
   -- THE STATEMENT: what the numbers of a run are, over its single steps.
   pub record ExactRun : Type 0 where
+    -- there is one step for each pair, each from the state that the one before left, from the start on to the end
+    pub steps : run paths heard s .steps ≡ length s
+    pub starts : stateAfter 0 ≡ heard
+    pub goes : (k : ℕ) → k < length s → stateAfter (suc k) ≡ step paths (stateAfter k) (getD s k noPair)
+    pub ends : run paths heard s .heard ≡ stateAfter (length s)
     -- the last change is exactly the greatest step that changed a choice, and 0 exactly where none did
     pub changed : (k : ℕ) → 1 ≤ k → (run paths heard s .lastChange ≡ k) ↔ Greatest Changes k
     pub unchanged : (run paths heard s .lastChange ≡ 0) ↔ ((k : ℕ) → Changes k → ⊥)
-    -- the ups and downs are how many steps went up and down
+    -- the ups and downs are as many as the steps that took their listener up and down
     pub ups : run paths heard s .ups ≡ countBelow rises (length s)
     pub downs : run paths heard s .downs ≡ countBelow falls (length s)
 
@@ -97,6 +102,10 @@ module _ (paths : ℕ → List Path) (heard : List ℕ) (s : List Pair) where
   tally-next k h =
       let pairs = listeningOffsets paths in
       ap (λ (n : ℕ). run paths heard (take n s)) (sym (add-one k)) ∙ fold-more (activated paths pairs) (begun heard) s k noPair h
+
+  state-none : stateAfter paths heard s 0 ≡ heard
+  unfolding begun
+  state-none = ap (λ (y : Tally). y .heard) tally-none
 
   state-next : (k : ℕ) → k < length s → stateAfter paths heard s (suc k) ≡ step paths (stateAfter paths heard s k) (getD s k noPair)
   unfolding activated
@@ -156,7 +165,8 @@ module _ (paths : ℕ → List Path) (heard : List ℕ) (s : List Pair) where
         let old = tallyAfter k .lastChange in
         let steps = tallyAfter k .steps in
         ap (λ (y : Tally). y .lastChange) (tally-next k h)
-        ∙ ap (λ (x : List ℕ). latest (same (choice paths (stateAfter paths heard s k) v) (choice paths x v)) old (suc steps)) (sym (state-next k h))
+        ∙ ap (λ (x : List ℕ). latest (same (choice paths (stateAfter paths heard s k) v) (choice paths x v)) old (suc steps))
+        (sym (state-next k h))
         ∙ ap (λ (n : ℕ). latest kept old (suc n)) (steps-after k (omega arith))
 
     kept-same : kept ≡ true → Changes paths heard s (suc k) → ⊥
@@ -199,6 +209,10 @@ exact-run paths heard s = go (last-after paths heard s (length s) (omega arith))
         → ExactRun paths heard s
     counted f g =
         record {
+          steps = run-steps paths heard s;
+          starts = state-none paths heard s;
+          goes = state-next paths heard s;
+          ends = ap (λ (y : Tally). y .heard) (sym (whole paths heard s));
           changed = f;
           unchanged = g;
           ups = ap (λ (y : Tally). y .ups) (sym (whole paths heard s)) ∙ ups-after paths heard s (length s) (omega arith);

@@ -26,6 +26,31 @@ vertexByte t i k = byteAt t i (2 + k)
 abbrev pub ownerByte : List ℕ → ℕ → ℕ
 ownerByte t i = vertexByte t i 0
 
+-- 4: "hops not 1 to 12" is a fault.
+abbrev pub HopsRight : List ℕ → ℕ → Type 0
+HopsRight t i = (1 ≤ hopsByte t i) × (hopsByte t i ≤ 12)
+
+-- 5: none of the h+1 vertices is above 63.
+abbrev pub VerticesRight : List ℕ → ℕ → Type 0
+VerticesRight t i = (k : ℕ) → k ≤ hopsByte t i → vertexByte t i k ≤ 63
+
+-- 6: every byte behind the vertices is 255, up to byte 14, and byte 15 is 0.
+pub record UnusedRight (t : List ℕ) (i : ℕ) : Type 0 where
+  pub filled : (k : ℕ) → 3 + hopsByte t i ≤ k → k ≤ 14 → byteAt t i k ≡ 255
+  pub end : byteAt t i 15 ≡ 0
+
+-- 7: no two of the vertices are equal.
+abbrev pub OnceEach : List ℕ → ℕ → Type 0
+OnceEach t i = (j k : ℕ) → j < k → k ≤ hopsByte t i → vertexByte t i j ≢ vertexByte t i k
+
+-- 8: the last vertex is 0.
+abbrev pub LastRight : List ℕ → ℕ → Type 0
+LastRight t i = vertexByte t i (hopsByte t i) ≡ 0
+
+-- 9: the owner of the record j before, if there is one, is not above this one's.
+abbrev pub OwnerRight : List ℕ → ℕ → Type 0
+OwnerRight t i = (j : ℕ) → suc j ≡ i → ownerByte t j ≤ ownerByte t i
+
 -- 10: the rank is at most 16; it is 1 for a new owner, and otherwise one more than that of the record j before.
 pub record RankRight (t : List ℕ) (i : ℕ) : Type 0 where
   pub most : rankByte t i ≤ 16
@@ -33,29 +58,24 @@ pub record RankRight (t : List ℕ) (i : ℕ) : Type 0 where
   pub new : (j : ℕ) → suc j ≡ i → ownerByte t j ≢ ownerByte t i → rankByte t i ≡ 1
   pub next : (j : ℕ) → suc j ≡ i → ownerByte t j ≡ ownerByte t i → rankByte t i ≡ suc (rankByte t j)
 
--- The records j and i have the same hops and the same vertices.
+-- 11: no earlier record has the same hops and the same vertices.
 pub record SamePath (t : List ℕ) (j i : ℕ) : Type 0 where
   pub hops : hopsByte t j ≡ hopsByte t i
   pub vertices : (k : ℕ) → k ≤ hopsByte t i → vertexByte t j k ≡ vertexByte t i k
 
+abbrev pub PathNew : List ℕ → ℕ → Type 0
+PathNew t i = (j : ℕ) → j < i → SamePath t j i → ⊥
+
 -- Record i keeps the rule with the page's number n; a number that is none of 4 to 11 is kept by every record.
 pub record Keeps (t : List ℕ) (i n : ℕ) : Type 0 where
-  -- 4: hops are 1 to 12
-  pub hops : n ≡ 4 → (1 ≤ hopsByte t i) × (hopsByte t i ≤ 12)
-  -- 5: none of the h+1 vertices is above 63
-  pub vertices : n ≡ 5 → (k : ℕ) → k ≤ hopsByte t i → vertexByte t i k ≤ 63
-  -- 6: every byte behind the vertices is 255, up to byte 14, and byte 15 is 0
-  pub unused : n ≡ 6 → ((k : ℕ) → 3 + hopsByte t i ≤ k → k ≤ 14 → byteAt t i k ≡ 255) × (byteAt t i 15 ≡ 0)
-  -- 7: no two vertices are equal
-  pub once : n ≡ 7 → (j k : ℕ) → j < k → k ≤ hopsByte t i → vertexByte t i j ≢ vertexByte t i k
-  -- 8: the last vertex is 0
-  pub last : n ≡ 8 → vertexByte t i (hopsByte t i) ≡ 0
-  -- 9: the owner of the record j before, if there is one, is not above this one's
-  pub owner : n ≡ 9 → (j : ℕ) → suc j ≡ i → ownerByte t j ≤ ownerByte t i
-  -- 10: the rank is the one that is due
+  pub hops : n ≡ 4 → HopsRight t i
+  pub vertices : n ≡ 5 → VerticesRight t i
+  pub unused : n ≡ 6 → UnusedRight t i
+  pub once : n ≡ 7 → OnceEach t i
+  pub last : n ≡ 8 → LastRight t i
+  pub owner : n ≡ 9 → OwnerRight t i
   pub rank : n ≡ 10 → RankRight t i
-  -- 11: no earlier record has the same path
-  pub path : n ≡ 11 → (j : ℕ) → j < i → SamePath t j i → ⊥
+  pub path : n ≡ 11 → PathNew t i
 
 -- An accepted table: "At most .. 16,128 bytes", records of 16 bytes, and each of them keeps every rule.
 pub record RightTable (t : List ℕ) : Type 0 where
@@ -104,14 +124,15 @@ pub record ListensAmong (paths : ℕ → List (List ℕ)) (v u : ℕ) : Type 0 w
   pub within : place < length (paths v)
   pub second : getD (getD (paths v) place []) 1 0 ≡ u
 
--- 12: the byte at k, which is 64v+u, is not 0, and v does not listen to u, or the byte is above the number of u's records, or above 1 for
--- u = 0.
+-- A byte is above what u can speak of: above 1 for u = 0, otherwise above the number of u's records.
+abbrev pub TooHigh : (ℕ → ℕ) → ℕ → ℕ → Type 0
+TooHigh number u b = ((u ≡ 0) × (1 < b)) ⊎ ((u ≢ 0) × (number u < b))
+
+-- 12: the byte at k, which is 64v+u, is not 0, and v does not listen to u or the byte is too high.
 pub record BadByte (Listens : ℕ → ℕ → Type 0) (number : ℕ → ℕ) (heard : List ℕ) (k : ℕ) : Type 0 where
   pub under : k < length heard
   pub something : getD heard k 0 ≢ 0
-  pub wrong : (Listens (k / 64) (k % 64) → ⊥)
-      ⊎ ((k % 64 ≡ 0) × (1 < getD heard k 0))
-      ⊎ ((k % 64 ≢ 0) × (number (k % 64) < getD heard k 0))
+  pub wrong : (Listens (k / 64) (k % 64) → ⊥) ⊎ TooHigh number (k % 64) (getD heard k 0)
 
 -- 14: the pair k of a schedule, "two bytes each, listener first", does not listen.
 pub record BadPair (Listens : ℕ → ℕ → Type 0) (schedule : List ℕ) (k : ℕ) : Type 0 where
