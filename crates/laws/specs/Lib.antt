@@ -9,6 +9,7 @@ pub mod Plain
 pub mod ExactRules
 pub mod Exact
 pub mod ExactHeard
+pub mod ExactChoice
 pub mod ExactRun
 pub mod ExactRing
 -- The laws of the definitions that those and the proofs of the code use.

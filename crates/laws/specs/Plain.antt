@@ -3,9 +3,9 @@
 use mathlib.Core.Path.{_≡_}
 use mathlib.Core.Logic.{_≢_, _⊎_}
 use mathlib.Core.Bool.{Bool, true}
-use mathlib.Core.List.{List, []}
-use Prim.Native.Nat.{ℕ, zero, suc, _+_, _*_, _/_, _%_, _<_, _≤_}
-use lib.ListN.{length, getD}
+use mathlib.Core.List.{List, [], _∷_}
+use Prim.Native.Nat.{ℕ, zero, suc, _+_, _-_, _*_, _/_, _%_, _<_, _≤_}
+use lib.ListN.{length, getD, drop}
 use lib.Dec.{eqb}
 use Rattle.lists.specs.Search.{countBelow}
 
@@ -138,6 +138,17 @@ pub record BadByte (Listens : ℕ → ℕ → Type 0) (number : ℕ → ℕ) (he
 pub record BadPair (Listens : ℕ → ℕ → Type 0) (schedule : List ℕ) (k : ℕ) : Type 0 where
   pub under : k < length schedule / 2
   pub silent : Listens (getD schedule (2 * k) 0) (getD schedule (2 * k + 1) 0) → ⊥
+
+-- The byte b heard from u tells the path q: "otherwise the rank of that path of u; for u = 0 the value 1 means (0)."
+abbrev pub ByteTells : (ℕ → List (List ℕ)) → ℕ → ℕ → List ℕ → Type 0
+ByteTells paths u b q =
+    ((u ≡ 0) × (b ≡ 1) × (q ≡ 0 ∷ []))
+    ⊎ ((u ≢ 0) × (1 ≤ b) × (b ≤ length (paths u)) × (getD (paths u) (b - 1) [] ≡ q))
+
+-- The rest of the path at place k of v is what v last heard from the next hop.
+pub record OnOffer (paths : ℕ → List (List ℕ)) (heard : List ℕ) (v k : ℕ) : Type 0 where
+  pub under : k < length (paths v)
+  pub told : let p = getD (paths v) k [] in let u = getD p 1 0 in ByteTells paths u (getD heard (64 * v + u) 0) (drop 1 p)
 
 -- The greatest number of a kind.
 pub record Greatest (P : ℕ → Type 0) (k : ℕ) : Type 0 where
