@@ -18,7 +18,7 @@ use Rattle.laws.specs.TableLaws.{at, fault-range, refused-long, refused-
 use Rattle.laws.specs.Plain.{Keeps, RightTable, LongTable, RaggedTable, FirstFault}
 use Rattle.laws.specs.ExactRules.{KeptTo, Walk, clean, stops, fault-walk}
 
--- THE STATEMENT: what a table's refusal is, in both directions, over its bytes.
+-- The statement: what a table's refusal is, in both directions, over its bytes.
 pub record ExactTable (t : List ℕ) : Type 0 where
   -- it is accepted exactly where the lengths are right and every record keeps every rule
   pub accepted : (refusal t ≡ none) ↔ RightTable t
@@ -177,7 +177,7 @@ module _ (t : List ℕ) where
       go (bad m j g lo hi q) = let s = same-told n i m j e q in inr (inr (omega arith, omega arith))
       go (fine r q) = absurd (none≢some q e)
 
--- THE THEOREM: it holds of every list of numbers.
+-- The theorem: it holds of every list of numbers.
 pub exact-table : (t : List ℕ) → ExactTable t
 exact-table t =
     record {

@@ -130,7 +130,7 @@ module _ (paths : ℕ → List Path) (present : ℕ → Bool) (shaped : Shaped p
               lowest = λ i m o. true≢ (passing i (omega arith) o) (r .earliest i m);
             })
 
--- THE STATEMENT: what a vertex other than the destination chooses, and how it stands.
+-- The statement: what a vertex other than the destination chooses, and how it stands.
 pub record ExactChoice (paths : ℕ → List Path) (heard : List ℕ) (v : ℕ) : Type 0 where
   -- it chooses exactly the best of its paths whose rest is what it last heard from the next hop, and none exactly where there is none
   pub chosen : (k : ℕ) → k < length (paths v) → (choice paths heard v ≡ getD (paths v) k []) ↔ Lowest (OnOffer paths heard v) k
@@ -147,7 +147,7 @@ module _ (paths : ℕ → List Path) (present : ℕ → Bool) (shaped : Shaped p
       let z : 16 - k ≡ 17 - suc k = omega arith in
       rw (standing, e, rankIn, r) z
 
-  -- THE THEOREM: it holds of every table's paths and every heard state.
+  -- The theorem: it holds of every table's paths and every heard state.
   pub exact-choice : ExactChoice paths heard v
   exact-choice = go (offers paths present shaped heard v other)
     where
@@ -178,7 +178,7 @@ module _ (paths : ℕ → List Path) (present : ℕ → Bool) (shaped : Shaped p
           (λ e. absurd (full j (l .holds .under) (sym (lowest j l) ∙ e)))
       go (nothing n) = both (λ k h e. absurd (full k h (sym e ∙ empty n))) (λ e. n)
 
--- THE STATEMENT: what a step at (v, u) leaves in the heard state.
+-- The statement: what a step at (v, u) leaves in the heard state.
 pub record ExactStep (paths : ℕ → List Path) (heard : List ℕ) (p : Pair) : Type 0 where
   pub size : length (step paths heard p) ≡ length heard
   -- nothing changes but at 64v+u
@@ -214,7 +214,7 @@ module _ (paths : ℕ → List Path) (present : ℕ → Bool) (shaped : Shaped p
   unfolding offsetOf
   stored n e = step-here paths heard p room ∙ e
 
-  -- THE THEOREM: it holds of every step whose offset is one of the heard state.
+  -- The theorem: it holds of every step whose offset is one of the heard state.
   pub exact-step : ExactStep paths heard p
   unfolding offsetOf rankIn
   exact-step =

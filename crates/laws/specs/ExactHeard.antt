@@ -27,7 +27,7 @@ use Rattle.laws.specs.Plain.{ownerByte, vertexByte, Lowest, ListensIn, r
 use Rattle.laws.specs.ExactRules.{owner-is, vertex-is}
 use Rattle.laws.specs.Exact.{exact-table}
 
--- THE STATEMENT: a search tells exactly the lowest number of a kind, and nothing exactly where there is none.
+-- The statement: a search tells exactly the lowest number of a kind, and nothing exactly where there is none.
 pub record Tells (found : Option ℕ) (P : ℕ → Type 0) : Type 0 where
   pub place : (k : ℕ) → (found ≡ some k) ↔ Lowest P k
   pub nothing : (found ≡ none) ↔ ((k : ℕ) → P k → ⊥)
@@ -249,13 +249,13 @@ bad-as L M n m heard f e k b =
       wrong = ⊎-map (λ s l. s (f (k / 64) (k % 64) l)) (⊎-map (λ h. h) (λ h. (h .0, rw (e (k % 64)) at (h .1)))) (b .wrong);
     }
 
--- THE STATEMENT: what the refusals 12 and 14 of an accepted table tell, in both directions, over the bytes of the table, the heard state and
+-- The statement: what the refusals 12 and 14 of an accepted table tell, in both directions, over the bytes of the table, the heard state and
 -- the schedule.
 pub record ExactPlaces (t heard schedule : List ℕ) : Type 0 where
   pub offset : Tells (heardFault (pathsOf t) heard) (BadByte (ListensIn t) (recordsOf t) heard)
   pub pair : Tells (firstBadPair (pathsOf t) (pairsIn schedule)) (BadPair (ListensIn t) schedule)
 
--- THE THEOREM: it holds of every accepted table.
+-- The theorem: it holds of every accepted table.
 pub exact-places : (t heard schedule : List ℕ) → refusal t ≡ none → ExactPlaces t heard schedule
 exact-places t heard schedule e =
     record {

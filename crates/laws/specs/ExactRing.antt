@@ -126,7 +126,7 @@ module _ (stuck : ℕ → Bool) (next : ℕ → ℕ) where
         let ring : Ring stuck next (turned (closedPart next 65 [] u)) = rw (e, ringFrom) at (ring-from stuck next w v s) in
         rw (e, ringFrom) (ring-met stuck next w u low ring))
 
-    -- THE THEOREM: where some vertex is stuck, the ring is exactly the list that the walk from the lowest stuck vertex closes to.
+    -- The theorem: where some vertex is stuck, the ring is exactly the list that the walk from the lowest stuck vertex closes to.
     pub exact-ring : (r : List ℕ) → (ringFrom stuck next ≡ r) ↔ RingMet stuck next r
     exact-ring r = (λ e. rw e at there, λ m. ring-one (ringFrom stuck next) r there m)
 

@@ -47,7 +47,7 @@ module _ (paths : ℕ → List Path) (heard : List ℕ) (s : List Pair) where
   abbrev pub falls : ℕ → Bool
   falls k = ltb (standing paths (stateAfter (suc k)) (listenerAt k)) (standing paths (stateAfter k) (listenerAt k))
 
-  -- THE STATEMENT: what the numbers of a run are, over its single steps.
+  -- The statement: what the numbers of a run are, over its single steps.
   pub record ExactRun : Type 0 where
     -- there is one step for each pair, each from the state that the one before left, from the start on to the end
     pub steps : run paths heard s .steps ≡ length s
@@ -197,7 +197,7 @@ module _ (paths : ℕ → List Path) (heard : List ℕ) (s : List Pair) where
   whole : tallyAfter (length s) ≡ run paths heard s
   whole = ap (run paths heard) (take-all (length s) s (omega arith))
 
--- THE THEOREM: it holds of every run.
+-- The theorem: it holds of every run.
 pub exact-run : (paths : ℕ → List Path) (heard : List ℕ) (s : List Pair) → ExactRun paths heard s
 exact-run paths heard s = go (last-after paths heard s (length s) (omega arith))
   where
