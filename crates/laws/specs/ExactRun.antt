@@ -115,14 +115,14 @@ module _ (paths : ℕ → List Path) (heard : List ℕ) (s : List Pair) where
   steps-after k h = run-steps paths heard (take k s) ∙ length-take k s ∙ omega arith
 
   -- its movement goes up or down as its listener's standing does
-  up-is : (k : ℕ) → k < length s → isUp (movement paths (stateAfter paths heard s k) (getD s k noPair)) ≡ rises paths heard s k
+  pub up-is : (k : ℕ) → k < length s → isUp (movement paths (stateAfter paths heard s k) (getD s k noPair)) ≡ rises paths heard s k
   unfolding movement
   up-is k h =
       let v = listenerAt paths heard s k in
       let now = stateAfter paths heard s k in
       rw (state-next k h) (difference-up (standing paths now v) (standing paths (step paths now (getD s k noPair)) v))
 
-  down-is : (k : ℕ) → k < length s → isDown (movement paths (stateAfter paths heard s k) (getD s k noPair)) ≡ falls paths heard s k
+  pub down-is : (k : ℕ) → k < length s → isDown (movement paths (stateAfter paths heard s k) (getD s k noPair)) ≡ falls paths heard s k
   unfolding movement
   down-is k h =
       let v = listenerAt paths heard s k in
