@@ -4,6 +4,14 @@ pub mod Accepted
 pub mod Blocks
 pub mod ShapeLaws
 pub mod Sanity
+-- What the page says in plain words, and that the definitions say exactly that.
+pub mod Plain
+pub mod ExactRules
+pub mod Exact
+pub mod ExactHeard
+pub mod ExactChoice
+pub mod ExactRun
+pub mod ExactRing
 -- The laws of the definitions that those and the proofs of the code use.
 pub mod TableLaws
 pub mod PassLaws

@@ -18,6 +18,7 @@ use Rattle.lists.specs.FillLaws.{tabulate-length, tabulate-at, tabulate-ext, ta
 use Rattle.rules.specs.Table.{Path, nextHop}
 use Rattle.rules.specs.Greedy.{Settled, isSettled, compatible, best, judged, settled, stageCount, stuckIn, follows, fromVertex, beforeVertex, closedPart, lowestOf, turned, ringFrom}
 use Rattle.laws.specs.Shape.{Permitted, Shaped}
+use Rattle.laws.specs.Plain.{after}
 use Rattle.laws.specs.PathLaws.{First, missing, found, first-cases}
 use Rattle.laws.specs.GreedyLaws.{is-none, stage-judges, settled-origin, quiet-stage, stages-quiet}
 
@@ -107,26 +108,21 @@ from-place v (x ∷ l) (suc k) h e f =
     let r = from-place v l k (omega arith) e (λ j a. f (suc j) (omega arith)) in
     (rw (q, fromVertex) (r .0), rw (q, beforeVertex) (ap (λ (l : List ℕ). x ∷ l) (r .1)))
 
--- where n steps from v lead
-after : (ℕ → ℕ) → ℕ → ℕ → ℕ
-after next zero v = v
-after next (suc n) v = next (after next n v)
-
-after-add : (next : ℕ → ℕ) (m n v : ℕ) → after next (m + n) v ≡ after next n (after next m v)
+pub after-add : (next : ℕ → ℕ) (m n v : ℕ) → after next (m + n) v ≡ after next n (after next m v)
 unfolding after
 after-add next m zero v = let z : m + 0 ≡ m = omega arith in rw z
 after-add next m (suc n) v = let z : m + suc n ≡ suc (m + n) = omega arith in rw z (ap next (after-add next m n v))
 
 -- the first n vertices on the way
-abbrev way : (ℕ → ℕ) → ℕ → ℕ → List ℕ
+abbrev pub way : (ℕ → ℕ) → ℕ → ℕ → List ℕ
 way next n v = tabulate (λ k. after next k v) n
 
 -- no vertex is met twice in n steps
-abbrev Apart : (ℕ → ℕ) → ℕ → ℕ → Type 0
+abbrev pub Apart : (ℕ → ℕ) → ℕ → ℕ → Type 0
 Apart next n v = (i j : ℕ) → i < j → j < n → after next i v ≢ after next j v
 
 -- a vertex on such a way parts it
-parted : (next : ℕ → ℕ) (n k v : ℕ)
+pub parted : (next : ℕ → ℕ) (n k v : ℕ)
     → k < n
     → Apart next n v
     → (fromVertex (after next k v) (way next n v) ≡ way next (n - k) (after next k v))
@@ -174,18 +170,27 @@ pub record Following (stuck : ℕ → Bool) (next : ℕ → ℕ) : Type 0 where
   pub range : (v : ℕ) → stuck v ≡ true → v < 64
   pub origin : stuck 0 ≡ false
 
+-- r is met on the way from v: from a vertex on to which the way comes back, at its first repetition.
+pub record Met (next : ℕ → ℕ) (v : ℕ) (r : List ℕ) : Type 0 where
+  pub lead : ℕ
+  pub size : ℕ
+  pub is : r ≡ way next size (after next lead v)
+  pub nonempty : 0 < size
+  pub back : after next (lead + size) v ≡ after next lead v
+  pub apart : Apart next (lead + size) v
+
 -- r is a way that comes back to its start, with no vertex twice.
-record Cycle (stuck : ℕ → Bool) (next : ℕ → ℕ) (r : List ℕ) : Type 0 where
-  start : ℕ
-  size : ℕ
-  is : r ≡ way next size start
-  nonempty : 0 < size
-  back : after next size start ≡ start
-  apart : Apart next size start
-  stays : stuck start ≡ true
+pub record Cycle (stuck : ℕ → Bool) (next : ℕ → ℕ) (r : List ℕ) : Type 0 where
+  pub start : ℕ
+  pub size : ℕ
+  pub is : r ≡ way next size start
+  pub nonempty : 0 < size
+  pub back : after next size start ≡ start
+  pub apart : Apart next size start
+  pub stays : stuck start ≡ true
 
 module _ (stuck : ℕ → Bool) (next : ℕ → ℕ) (w : Following stuck next) where
-  after-stuck : (n v : ℕ) → stuck v ≡ true → stuck (after next n v) ≡ true
+  pub after-stuck : (n v : ℕ) → stuck v ≡ true → stuck (after next n v) ≡ true
   unfolding after
   after-stuck zero v s = s
   after-stuck (suc n) v s = w .on (after next n v) (after-stuck n v s)
@@ -194,42 +199,51 @@ module _ (stuck : ℕ → Bool) (next : ℕ → ℕ) (w : Following stuck next) 
   stuck-above v s = by-equal v 0 (λ q. absurd (true≢ (rw q at s) (w .origin))) (λ q. omega arith)
 
   -- from a repeated vertex on
-  closes-at : (n v : ℕ)
-      → stuck v ≡ true
-      → Apart next n v
-      → elem (after next n v) (way next n v) ≡ true
-      → Cycle stuck next (fromVertex (after next n v) (way next n v))
-  closes-at n v s a q = go (tabulate-place (λ k. after next k v) n (after next n v) q)
+  met-at : (n v : ℕ) → Apart next n v → elem (after next n v) (way next n v) ≡ true → Met next v (fromVertex (after next n v) (way next n v))
+  met-at n v a q = go (tabulate-place (λ k. after next k v) n (after next n v) q)
     where
-      go : (k : ℕ) × (k < n) × (after next k v ≡ after next n v) → Cycle stuck next (fromVertex (after next n v) (way next n v))
+      go : (k : ℕ) × (k < n) × (after next k v ≡ after next n v) → Met next v (fromVertex (after next n v) (way next n v))
       go (k, h, e) =
           let z : k + (n - k) ≡ n = omega arith in
           record {
-            start = after next k v;
+            lead = k;
             size = n - k;
             is = rw (← e) (parted next n k v h a .0);
             nonempty = omega arith;
-            back = sym (after-add next k (n - k) v) ∙ rw z (sym e);
-            apart = λ i j l m d. a (k + i) (k + j) (omega arith) (omega arith) (after-add next k i v ∙ d ∙ sym (after-add next k j v));
-            stays = after-stuck k v s;
+            back = rw z (sym e);
+            apart = rw z a;
           }
 
   -- following long enough closes
-  closed : (f n v : ℕ)
-      → stuck v ≡ true
-      → n + f ≡ 65
-      → Apart next n v
-      → Cycle stuck next (closedPart next f (way next n v) (after next n v))
+  closed : (f n v : ℕ) → stuck v ≡ true → n + f ≡ 65 → Apart next n v → Met next v (closedPart next f (way next n v) (after next n v))
   unfolding closedPart tabulate after
   closed zero n v s e a =
       absurd (omega (arith, pigeonhole (λ k. after next k v) 64 n (λ i h. w .range _ (after-stuck i v s)) a))
   closed (suc f) n v s e a =
       by-test (elem (after next n v) (way next n v))
-      (λ q. rw (q, closedPart) (closes-at n v s a q))
+      (λ q. rw (q, closedPart) (met-at n v a q))
       (λ q. rw (q, closedPart) (closed f (suc n) v s (omega arith)
       (λ i j h l d. by-equal j n
       (λ r. true≢ (rw (d, r) at (tabulate-elem (λ k. after next k v) n i (omega arith))) q)
       (λ r. a i j h (omega arith) d))))
+
+  pub met : (v : ℕ) → stuck v ≡ true → Met next v (closedPart next 65 [] v)
+  unfolding tabulate after
+  met v s = closed 65 0 v s (omega arith) (λ i j h l. absurd (not-suc-le-zero l))
+
+  -- what is met is a cycle
+  unfoldable pub met-cycle : (v : ℕ) (r : List ℕ) → stuck v ≡ true → Met next v r → Cycle stuck next r
+  met-cycle v r s m =
+      record {
+        start = after next (m .lead) v;
+        size = m .size;
+        is = m .is;
+        nonempty = m .nonempty;
+        back = sym (after-add next (m .lead) (m .size) v) ∙ m .back;
+        apart = λ i j l h d. m .apart (m .lead + i) (m .lead + j) (omega arith) (omega arith)
+            (after-add next (m .lead) i v ∙ d ∙ sym (after-add next (m .lead) j v));
+        stays = after-stuck (m .lead) v s;
+      }
 
   -- a cycle that starts at its lowest vertex is a ring
 
@@ -318,17 +332,29 @@ module _ (stuck : ℕ → Bool) (next : ℕ → ℕ) (w : Following stuck next) 
           let m : elem u r ≡ true = rw (after-add next j k (c .start)) at (meets (j + k)) in
           by-less u (lowestOf r) (λ l. absurd (true≢ m (low-found .earliest u (omega arith) l))) (λ l. omega arith)
 
+      turned-at : (k : ℕ) → k < c .size → getD (turned r) k 0 ≡ after next (j + k) (c .start)
+      unfolding turned-cycle
+      turned-at k l = cycle-at turned-cycle k (omega (arith, cycle-length turned-cycle)) ∙ sym (after-add next j k (c .start))
+
+    low-place : (j : ℕ) × (j < c .size) × (after next j (c .start) ≡ lowestOf r)
+    low-place =
+        tabulate-place (λ k. after next k (c .start)) (c .size) (lowestOf r) (ap (elem (lowestOf r)) (sym (c .is)) ∙ low-found .passes)
+
     turned-ring : Ring stuck next (turned r)
     unfolding turned-cycle
-    turned-ring =
-        let (j, h, e) = tabulate-place (λ k. after next k (c .start)) (c .size) (lowestOf r)
-        (ap (elem (lowestOf r)) (sym (c .is)) ∙ low-found .passes) in
-        cycle-ring (turned-cycle j h e) (turned-lowest j h e)
+    turned-ring = let (j, h, e) = low-place in cycle-ring (turned-cycle j h e) (turned-lowest j h e)
+
+    -- it is as long as before, and goes through the cycle from one of its places on
+    pub turned-length : length (turned r) ≡ c .size
+    unfolding turned-cycle
+    turned-length = let (j, h, e) = low-place in cycle-length (turned-cycle j h e)
+
+    pub turned-through : (j : ℕ) × (j < c .size) × ((k : ℕ) → k < c .size → getD (turned r) k 0 ≡ after next (j + k) (c .start))
+    turned-through = let (j, h, e) = low-place in (j, h, turned-at j h e)
 
   -- the way from a stuck vertex closes to a ring
   ring-at : (v : ℕ) → stuck v ≡ true → Ring stuck next (turned (closedPart next 65 [] v))
-  unfolding tabulate after
-  ring-at v s = turned-ring (closed 65 0 v s (omega arith) (λ i j h l. absurd (not-suc-le-zero l)))
+  ring-at v s = turned-ring (met-cycle v _ s (met v s))
 
   -- where some vertex is stuck, there is a ring
   pub ring-from : (v : ℕ) → stuck v ≡ true → Ring stuck next (ringFrom stuck next)

@@ -120,11 +120,11 @@ orderly-more t n o p q =
 -- the rank that is due after a record of the same owner, and after one of another
 
 module _ (t : List ℕ) (j : ℕ) where
-  due-same : ownerAt t (suc j) ≡ ownerAt t j → rankDue t (suc j) ≡ suc (rankAt t j)
+  pub due-same : ownerAt t (suc j) ≡ ownerAt t j → rankDue t (suc j) ≡ suc (rankAt t j)
   unfolding rankDue
   due-same e = rw (eq-eqb (ownerAt t (suc j)) (ownerAt t j) e, rankDue)
 
-  due-new : (ownerAt t (suc j) ≡ ownerAt t j → ⊥) → rankDue t (suc j) ≡ 1
+  pub due-new : (ownerAt t (suc j) ≡ ownerAt t j → ⊥) → rankDue t (suc j) ≡ 1
   unfolding rankDue
   due-new f = rw (ne-eqb (ownerAt t (suc j)) (ownerAt t j) f, rankDue)
 
