@@ -25,6 +25,8 @@ use Rattle.laws.specs.ShapeLaws.{longest-most}
 use Rattle.laws.specs.RoundLaws.{contains-fewer}
 use Rattle.reefsplice.specs.Called.{CheckCalled, StepCalled, RunCalled}
 use Rattle.theorems.specs.Claims.{Call, ofRun, ofStep, callRefusal, heardAfterCall, roundsOfCall, AllAccepted, heardAfter, pairsOfCall, pairsOf, roundsAnswered, listeningPairs, Valid, rowOf, Given, Stays}
+use Rattle.theorems.specs.LastingLaws.{after}
+use Rattle.theorems.specs.CallLaws.{all-after}
 use Rattle.theorems.specs.Settling.{settling, settling-heard, answered-contained}
 
 -- A call as the collector saw it: what it lent, and what it found there afterwards.
@@ -176,6 +178,14 @@ unfolding seenOf pairsSent pairsSentBy pairsOf pairsOfCall
 seen-pairs t heard [] = refl
 seen-pairs t heard (ofRun s sums ∷ cs) = ap (λ (l : List Pair). pairsIn s ++ l) (seen-pairs t _ cs)
 seen-pairs t heard (ofStep p ∷ cs) = ap (λ (l : List Pair). p ∷ l) (seen-pairs t _ cs)
+
+-- and they leave the same heard state
+pub seen-left : (t heard : List ℕ) (calls : List Call) → AllAccepted t heard calls → heardLeft heard (seenOf t heard calls) ≡ heardAfter t heard calls
+seen-left t heard calls a =
+    let rs = seenOf t heard calls in
+    let all = as-calls t heard rs (all-seen t heard calls a) in
+    sym (all .left) ∙ all-after t (map callOf rs) heard (all .accepted)
+    ∙ ap (after (pathsOf t) heard) (sent-same rs ∙ seen-pairs t heard calls) ∙ sym (all-after t calls heard a)
 
 -- What the collector holds: a check of the table, a valid heard state, and calls on it. No entry has refused.
 pub record Collected (t rows ring numbers rowsNow ringNow numbersNow heard : List ℕ) (rs : List Seen) : Type 0 where

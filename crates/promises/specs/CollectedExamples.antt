@@ -1,16 +1,17 @@
--- A collector that makes single steps alone: no run answers a round, and the pairs that it sent settle table 7 all the same.
+-- A collector that makes single steps alone: no run answers a round, and the pairs that it sent settle table 7 all the same; and that
+-- fewer rounds, or rounds of fewer pairs, are not enough for C either.
 use Prim.{tt}
-use Prim.Native.Nat.{ℕ, suc, _*_, _<_}
+use Prim.Native.Nat.{ℕ, suc, _-_, _*_, _<_, _≤_}
 use native.Mathlib.Omega.{arith}
 use mathlib.Core.Path.{_≡_, refl, sym, ap, _∙_, subst}
 use mathlib.Core.Bool.{true}
 use mathlib.Core.List.{List, [], _∷_, map}
 use mathlib.Core.Option.{none}
-use lib.ListN.{length, getD, replicate}
+use lib.ListN.{length, getD, replicate, drop}
 use Rattle.lists.specs.Search.{thoseBelow, anyIn, firstIn}
 use Rattle.lists.specs.Fill.{padded}
 use Rattle.rules.specs.Table.{recordAt, records, rankOf, hopsOf, pathOf, ownerOf, owned, pathsBelow, pathsOf, nextHop, listens}
-use Rattle.rules.specs.Report.{rowAt, pathShown}
+use Rattle.rules.specs.Report.{rowAt, pathShown, report}
 use Rattle.rules.specs.Machine.{Pair, choice}
 use Rattle.rules.specs.Run.{pairsIn}
 use Rattle.rules.specs.Rounds.{Contains}
@@ -24,8 +25,9 @@ use Rattle.laws.specs.RunLaws.{noPair, all-listen}
 use Rattle.laws.specs.RoundLaws.{rounds-contained}
 use Rattle.theorems.specs.Claims.{Call, ofStep, callRefusal, heardAfterCall, AllAccepted, heardAfter, pairsOfCall, pairsOf, listeningPairs, Valid, Stays}
 use Rattle.theorems.specs.CallLaws.{all-valid}
-use Rattle.theorems.specs.SettlingExamples.{table7Bytes, leftover, slowRound, times, aRun, sixRounds, computed}
-use Rattle.promises.specs.Collected.{Seen, roundsIn, roundsSeen, pairsSent, seenOf, seen-pairs, heardLeft, Collected, collectable, same-rows, same-hops, collected-contained}
+use Rattle.theorems.specs.Settling.{Settling}
+use Rattle.theorems.specs.SettlingExamples.{table7Bytes, leftover, slowRound, times, aRun, sixRounds, computed, fewer-hops-short, fewer-stages-short, some-pairs-short}
+use Rattle.promises.specs.Collected.{Seen, roundsIn, roundsSeen, pairsSent, seenOf, seen-pairs, seen-left, heardLeft, Collected, collectable, same-rows, same-hops, collected-contained}
 
 -- In every valid heard state the steps of a schedule without a bad pair are accepted, one after the other.
 pub steps-accepted : (t heard : List ℕ) (s : List Pair)
@@ -116,3 +118,45 @@ by-steps =
     let chooses = collected-contained table7Bytes rows ring numbers rowsNow _ numbersNow leftover seenBySteps held 3 (omega arith) (omega (arith, stage))
     (subst (λ n. Contains (listeningPairs table7Bytes) n (pairsSent seenBySteps)) (sym enough) six-sent) in
     (steps-answer-none table7Bytes leftover (pairsOf sixRounds), (chooses .0 ∙ shown, chooses .1))
+
+-- What is claimed for C of pairs sent that contain so many rounds of some pairs: both are left open, as in Settling, so that other rounds and
+-- fewer of them can be refuted.
+abbrev pub Collecting : (List ℕ → List ℕ) → (ℕ → ℕ → ℕ) → Type 0
+Collecting pairs enough =
+    (t rows ring numbers rowsNow ringNow numbersNow heard : List ℕ) (rs : List Seen)
+    → Collected t rows ring numbers rowsNow ringNow numbersNow heard rs
+    → (v : ℕ)
+    → v < 64
+    → getD (rowAt rowsNow v) 0 0 ≤ 63
+    → Contains (pairs t) (enough (getD (rowAt rowsNow v) 0 0) (numberAt numbersNow 4)) (pairsSent rs)
+    → Stays t (heardLeft heard rs) v
+
+-- collected-contained is the claim with all listening pairs and the stage times L
+pub collecting : Collecting listeningPairs (λ k hops. k * hops)
+collecting t rows ring numbers rowsNow ringNow numbersNow heard rs held v vertex isStage rounds =
+    collected-contained t rows ring numbers rowsNow ringNow numbersNow heard rs held v vertex isStage rounds .1
+
+-- A claim for C is one for the library, since every history can be seen: so what is too few there is too few here.
+pub collecting-settles : (pairs : List ℕ → List ℕ) (enough : ℕ → ℕ → ℕ) → Collecting pairs enough → Settling pairs enough
+collecting-settles pairs enough claim t heard v k calls g rounds =
+    let rs = seenOf t heard calls in
+    let rowsThen = rowsForC t rows ring numbers in
+    let numbersThen = checkNumbersForC t rows ring numbers in
+    let held = collectable t heard calls (g .table) (g .state) (g .each) rows ring numbers refl refl refl in
+    let stage : getD (rowAt rowsThen v) 0 0 ≡ k
+    = ap (λ (l : List ℕ). getD (rowAt l v) 0 0) (same-rows t rows ring numbers _ _ _ heard rs held) ∙ g .row .stage in
+    let hops : numberAt numbersThen 4 ≡ report t .hops = same-hops t rows ring numbers _ _ _ heard rs held in
+    let sent = subst (λ s. Contains (pairs t) (enough k (report t .hops)) s) (sym (seen-pairs t heard calls)) rounds in
+    let so = subst (λ n. Contains (pairs t) n (pairsSent rs)) (sym (ap (λ n. enough n (numberAt numbersThen 4)) stage ∙ ap (enough k) hops)) sent in
+    subst (λ (h : List ℕ). Stays t h v) (seen-left t heard calls (g .each))
+    (claim t rows ring numbers rowsThen _ numbersThen heard rs held v (g .row .vertex) (omega (arith, stage, g .row .isStage)) so)
+
+-- Neither k times (L minus 1) nor (k minus 1) times L rounds are enough for C, nor however many rounds that leave out a listening pair.
+pub collected-hops-short : Collecting listeningPairs (λ k hops. k * (hops - 1)) → ⊥
+collected-hops-short claim = fewer-hops-short (collecting-settles listeningPairs (λ k hops. k * (hops - 1)) claim)
+
+pub collected-stages-short : Collecting listeningPairs (λ k hops. (k - 1) * hops) → ⊥
+collected-stages-short claim = fewer-stages-short (collecting-settles listeningPairs (λ k hops. (k - 1) * hops) claim)
+
+pub collected-pairs-short : (enough : ℕ → ℕ → ℕ) → Collecting (λ t. drop 1 (listeningPairs t)) enough → ⊥
+collected-pairs-short enough claim = some-pairs-short enough (collecting-settles (λ t. drop 1 (listeningPairs t)) enough claim)
