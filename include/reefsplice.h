@@ -124,7 +124,8 @@ uint64_t reefsplice_step(const uint8_t *table, size_t table_len, uint8_t *heard,
 
    What to plan by: let the check of a table say stage k for a router. From every valid heard state, once accepted runs
    (each going on from the heard state that the one before left) have answered k times L rounds in all, the router
-   chooses what its row reports, and no later step changes that. */
+   chooses what its row reports, and no later step changes that. So it is once the pairs of all accepted runs and
+   steps, in their order, contain k times L rounds, one after the other, each with every listening pair in it. */
 uint64_t reefsplice_run(const uint8_t *table, size_t table_len, uint8_t *heard, size_t heard_len,
                         const uint8_t *schedule, size_t schedule_len, uint8_t *sums, size_t sums_len, uint8_t *numbers,
                         size_t numbers_len);

@@ -142,23 +142,41 @@ def edit_fault(log):
 # Comments and quoted text, in which no contract stands.
 ASIDE = re.compile(r"""//[^\n]*|/\*.*?\*/|b?"(?:\\.|[^"\\])*"|b'(?:\\.|[^'\\])'""", re.DOTALL)
 PUBLIC = re.compile(r"\bpub\s+(?:(?:const|extern)\s+)*fn\s+(\w+)")
+CLAUSE = re.compile(r"\b(requires|ensures)\b")
 
 
-def demanding(source):
-    """The line and the name of each `pub fn` of a source text that has a `requires`."""
+def contract_faults(source):
+    """The line, the name and the fault of each `pub fn` of a source text that has a `requires` or no `ensures`."""
     code = ASIDE.sub(lambda aside: "\n" * aside[0].count("\n"), source)
     for found in PUBLIC.finditer(code):
-        own = re.split(r"\bfn\b", code[found.end() :], maxsplit=1)[0]
-        if re.search(r"\brequires\b", own):
-            yield code.count("\n", 0, found.start()) + 1, found[1]
+        line = code.count("\n", 0, found.start()) + 1
+        clauses = clauses_in(re.split(r"\bfn\b", code[found.end() :], maxsplit=1)[0])
+        if "requires" in clauses:
+            yield line, found[1], "has a requires"
+        if "ensures" not in clauses:
+            yield line, found[1], "has no ensures"
+
+
+def clauses_in(code):
+    """The words of a function's contract that stand before braces; the first braces without one are its body."""
+    clauses, depth, begin = [], 0, 0
+    for brace in re.finditer(r"[{}]", code):
+        if brace[0] == "{" and depth == 0:
+            clause = CLAUSE.search(code, begin, brace.start())
+            if clause is None:
+                break
+            clauses.append(clause[1])
+        depth += 1 if brace[0] == "{" else -1
+        begin = brace.end()
+    return clauses
 
 
 def judge_contracts(root):
-    """One test: no public function asks anything of its caller."""
+    """One test: every public function asks nothing of its caller, and promises something."""
     failures = [
-        f"contracts: {path.relative_to(root)}:{line}: pub fn {name} has a requires"
+        f"contracts: {path.relative_to(root)}:{line}: pub fn {name} {fault}"
         for path in sorted(root.glob("crates/*/src/**/*.rt"))
-        for line, name in demanding(path.read_text(encoding="utf-8"))
+        for line, name, fault in contract_faults(path.read_text(encoding="utf-8"))
     ]
     return Counts(0 if failures else 1, failures)
 

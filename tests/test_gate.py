@@ -1,5 +1,6 @@
 """The gate's judgements, on made-up outputs, logs and sources."""
 
+import re
 import tempfile
 import unittest
 from pathlib import Path
@@ -141,31 +142,69 @@ class Formatting(unittest.TestCase):
 
 
 class Contracts(Folder):
-    def names(self, source):
-        return list(gate.demanding(source))
+    def requiring(self, source):
+        return [(line, name) for line, name, fault in gate.contract_faults(source) if fault == "has a requires"]
+
+    def without(self, source):
+        return [(line, name) for line, name, fault in gate.contract_faults(source) if fault == "has no ensures"]
 
     def test_public_functions_with_a_requires(self):
-        self.assertEqual(self.names("\npub fn f(x: u8)\n    requires { ⌜ x < 3 ⌝ }\n{ }\n"), [(2, "f")])
-        self.assertEqual(self.names('#[no_mangle]\npub extern "C" fn g(x: u8) requires { ⌜ a ⌝ } { }'), [(2, "g")])
+        self.assertEqual(self.requiring("\npub fn f(x: u8)\n    requires { ⌜ x < 3 ⌝ }\n{ }\n"), [(2, "f")])
+        self.assertEqual(self.requiring('#[no_mangle]\npub extern "C" fn g(x: u8) requires { ⌜ a ⌝ } { }'), [(2, "g")])
         method = "impl S { pub fn h(self) -> u8\nensures { ⌜ a ⌝ } requires { ⌜ b ⌝ } { 1 } }"
-        self.assertEqual(self.names(method), [(1, "h")])
+        self.assertEqual(list(gate.contract_faults(method)), [(1, "h", "has a requires")])
+        behind = "pub fn k() ensures { ⌜ f (record { a = record { b = 1 } }) ⌝ }\nrequires { ⌜ b ⌝ } { }"
+        self.assertEqual(list(gate.contract_faults(behind)), [(1, "k", "has a requires")])
 
-    def test_others(self):
-        self.assertEqual(self.names("fn f(x: u8) requires { ⌜ a ⌝ } { }\npub fn g() { f(1) }\n"), [])
-        self.assertEqual(self.names("pub fn g() { }\nfn f() requires { ⌜ a ⌝ } { }"), [])
-        self.assertEqual(self.names("pub(crate) fn f() requires { ⌜ a ⌝ } { }"), [])
+    def test_public_functions_without_an_ensures(self):
+        self.assertEqual(self.without("\npub fn f(x: u8) -> [u8; 2]\n{\n    [x; 2]\n}\n"), [(2, "f")])
+        self.assertEqual(self.without('#[no_mangle]\npub extern "C" fn g(x: u8) { }'), [(2, "g")])
+        self.assertEqual(self.without("impl S { pub fn h(self) requires { ⌜ a ⌝ } { } }"), [(1, "h")])
+        self.assertEqual(self.without("pub const fn c() -> u8 { 1 }\npub fn d()\n{ }"), [(1, "c"), (2, "d")])
+        self.assertEqual(self.without("pub fn declared(x: u8);"), [(1, "declared")])
+
+    def test_public_functions_with_an_ensures(self):
+        for source in (
+            "pub fn f(x: u8) -> u8\n    ensures { λ r. ⌜ r ≡ x ⌝ }\n{ x }\n",
+            '#[no_mangle]\npub extern "C" fn g(x: &mut [u8])\n  ensures code { ⌜ a ⌝ }\n  ensures x { ⌜ b ⌝ }\n{ }\n',
+            "pub fn h(x: [u8; 2]) ensures { λ r. ⌜ r ≡ f (record { a = x; b = record { c = 1 } }) ⌝ } { if x { } }",
+        ):
+            self.assertEqual(list(gate.contract_faults(source)), [])
+
+    def test_a_clause_elsewhere_is_not_the_function_s(self):
+        self.assertEqual(self.without("pub fn f() { g() }\nfn g() ensures { ⌜ a ⌝ } { }"), [(1, "f")])
+        self.assertEqual(self.without("fn g() ensures { ⌜ a ⌝ } { }\npub fn f() { g() }"), [(2, "f")])
+        self.assertEqual(self.without("pub fn f() { while a ensures { ⌜ b ⌝ } { } }"), [(1, "f")])
+        self.assertEqual(self.requiring("pub fn g() { }\nfn f() requires { ⌜ a ⌝ } { }"), [])
+
+    def test_functions_that_are_not_public(self):
+        private = "fn main() { }\npub(crate) fn f() requires { ⌜ a ⌝ } { }\nfn g(x: u8) requires { ⌜ a ⌝ } { }"
+        self.assertEqual(list(gate.contract_faults(private)), [])
 
     def test_words_aside(self):
-        named_aside = '// pub fn f requires\npub fn g() { b"requires"; } /* requires */ // requires\n'
-        self.assertEqual(self.names(named_aside), [])
-        self.assertEqual(self.names("pub fn g() { b'\"'; }\npub fn f() requires { ⌜ a ⌝ } { b'\"'; }"), [(2, "f")])
+        named_aside = '// pub fn f requires\npub fn g() ensures { a } { b"requires"; } /* requires */ // requires\n'
+        self.assertEqual(list(gate.contract_faults(named_aside)), [])
+        self.assertEqual(self.requiring("pub fn g() { b'\"'; }\npub fn f() requires { ⌜ a ⌝ } { b'\"'; }"), [(2, "f")])
+        for aside in ("// ensures { a }\n", "/* ensures { a } */", '"ensures"', 'b"ensures { a }"'):
+            self.assertEqual(self.without(f"pub fn f() {aside} {{ }}"), [(1, "f")], aside)
 
     def test_the_place_is_named(self):
-        self.write("crates/a/src/lib.rt", "pub fn fine() { }\n")
+        self.write("crates/a/src/lib.rt", "pub fn fine() ensures { ⌜ a ⌝ } { }\n")
         self.assertEqual(gate.judge_contracts(self.root), (1, [], ()))
-        self.write("crates/a/src/deep/b.rt", "\npub fn f() requires { ⌜ a ⌝ } { }\n")
-        failures = ["contracts: crates/a/src/deep/b.rt:2: pub fn f has a requires"]
+        self.write("crates/a/src/deep/b.rt", "\npub fn f() requires { ⌜ a ⌝ } ensures { ⌜ a ⌝ } { }\n")
+        self.write("crates/b/src/lib.rt", '// What g does.\n#[no_mangle]\npub extern "C" fn g() { }\n')
+        failures = [
+            "contracts: crates/a/src/deep/b.rt:2: pub fn f has a requires",
+            "contracts: crates/b/src/lib.rt:3: pub fn g has no ensures",
+        ]
         self.assertEqual(gate.judge_contracts(self.root), (0, failures, ()))
+
+    def test_a_source_of_ours_that_loses_its_ensures(self):
+        """The reader's own source, with the lines of its contract taken away."""
+        source = (gate.ROOT / "crates" / "reader" / "src" / "lib.rt").read_text(encoding="utf-8")
+        self.assertEqual(list(gate.contract_faults(source)), [])
+        bare = re.sub(r"^ *ensures.*\n", "", source, flags=re.MULTILINE)
+        self.assertEqual([name for _, name in self.without(bare)], ["read"])
 
 
 class Outside(unittest.TestCase):

@@ -1,5 +1,5 @@
 -- What the collector holds after a check and some runs and steps, by the contracts of the entries for C alone: demand 3 over the
--- bytes that it was given, with the rounds that the runs answered.
+-- bytes that it was given, with the rounds that its pairs contain, or that the runs answered.
 use Prim.{Unit}
 use Prim.Native.Nat.{ℕ, suc, _+_, _*_, _<_, _≤_}
 use native.Mathlib.Omega.{arith}
@@ -17,6 +17,7 @@ use Rattle.rules.specs.Run.{pairsIn}
 use Rattle.rules.specs.Refusals.{refusal}
 use Rattle.rules.specs.Answers.{checkRefusal, checkNumbers, unless, runNumbers, heardAfterRun, heardAfterStep}
 use Rattle.rules.specs.Entries.{wordBytes, numberBytes, checkRefusalForC, rowsForC, ringForC, checkNumbersForC, heardStepForC, stepNumbersForC, heardRunForC, sumsForC, runNumbersForC}
+use Rattle.rules.specs.Rounds.{Contains}
 use Rattle.laws.specs.EntryLaws.{numberAt, number-told, code-none, check-same, check-zero, check-none, step-same, step-zero, step-none, run-same, run-zero, run-none, run-any-sums}
 use Rattle.laws.specs.AnswerLaws.{lent-right, check-admitted}
 use Rattle.laws.specs.RefusalLaws.{rounds-few}
@@ -24,7 +25,9 @@ use Rattle.laws.specs.ShapeLaws.{longest-most}
 use Rattle.laws.specs.RoundLaws.{contains-fewer}
 use Rattle.reefsplice.specs.Called.{CheckCalled, StepCalled, RunCalled}
 use Rattle.theorems.specs.Claims.{Call, ofRun, ofStep, callRefusal, heardAfterCall, roundsOfCall, AllAccepted, heardAfter, pairsOfCall, pairsOf, roundsAnswered, listeningPairs, Valid, rowOf, Given, Stays}
-use Rattle.theorems.specs.Settling.{settling-answered, settling-heard, answered-contained}
+use Rattle.theorems.specs.LastingLaws.{after}
+use Rattle.theorems.specs.CallLaws.{all-after}
+use Rattle.theorems.specs.Settling.{settling, settling-heard, answered-contained}
 
 -- A call as the collector saw it: what it lent, and what it found there afterwards.
 pub data Seen : Type 0 where
@@ -57,10 +60,27 @@ unfoldable pub roundsSeen : List Seen → ℕ
 roundsSeen [] = 0
 roundsSeen (r ∷ rs) = roundsIn r + roundsSeen rs
 
+-- the pairs that it sent, in order: those in the bytes of the schedules, and that of each step
+
+unfoldable pub pairsSentBy : Seen → List Pair
+pairsSentBy (ran s sums numbers heardNow sumsNow numbersNow) = pairsIn s
+pairsSentBy (stepped p numbers heardNow numbersNow) = p ∷ []
+
+unfoldable pub pairsSent : List Seen → List Pair
+pairsSent [] = []
+pairsSent (r ∷ rs) = pairsSentBy r ++ pairsSent rs
+
 -- the same as calls of the library
 unfoldable pub callOf : Seen → Call
 callOf (ran s sums numbers heardNow sumsNow numbersNow) = ofRun s (replicate 64 (pos 0))
 callOf (stepped p numbers heardNow numbersNow) = ofStep p
+
+-- they have the pairs that it sent
+sent-same : (rs : List Seen) → pairsOf (map callOf rs) ≡ pairsSent rs
+unfolding callOf pairsOf pairsOfCall pairsSent pairsSentBy
+sent-same [] = refl
+sent-same (ran s sums numbers heardNow sumsNow numbersNow ∷ rs) = ap (λ (l : List Pair). pairsIn s ++ l) (sent-same rs)
+sent-same (stepped p numbers heardNow numbersNow ∷ rs) = ap (λ (l : List Pair). p ∷ l) (sent-same rs)
 
 module _ (t : List ℕ) where
   -- What an entry's contract says of it as a call.
@@ -116,6 +136,12 @@ module _ (t : List ℕ) where
   as-calls heard (stepped p numbers heardNow numbersNow ∷ rs) a =
       more heard _ rs (as-step heard p numbers heardNow numbersNow (a .0)) (as-calls heardNow rs (a .1))
 
+  -- The rounds that the runs answered are rounds of the pairs that it sent.
+  pub seen-contained : (heard : List ℕ) (rs : List Seen) → AllCalled t heard rs → Contains (listeningPairs t) (roundsSeen rs) (pairsSent rs)
+  seen-contained heard rs a =
+      let all = as-calls heard rs a in
+      rw (all .rounds, ← (sent-same rs)) (answered-contained t heard (map callOf rs) (all .accepted))
+
 -- What the collector sees of calls that the library accepts, where it lends zeros: so there is no history of accepted calls that could not be
 -- seen.
 unfoldable pub seenOf : List ℕ → List ℕ → List Call → List Seen
@@ -147,11 +173,19 @@ all-seen t heard (ofStep p ∷ cs) a =
     )
 
 -- and it is the same pairs
-pub seen-pairs : (t heard : List ℕ) (calls : List Call) → pairsOf (map callOf (seenOf t heard calls)) ≡ pairsOf calls
-unfolding seenOf callOf pairsOf pairsOfCall
+pub seen-pairs : (t heard : List ℕ) (calls : List Call) → pairsSent (seenOf t heard calls) ≡ pairsOf calls
+unfolding seenOf pairsSent pairsSentBy pairsOf pairsOfCall
 seen-pairs t heard [] = refl
 seen-pairs t heard (ofRun s sums ∷ cs) = ap (λ (l : List Pair). pairsIn s ++ l) (seen-pairs t _ cs)
 seen-pairs t heard (ofStep p ∷ cs) = ap (λ (l : List Pair). p ∷ l) (seen-pairs t _ cs)
+
+-- and they leave the same heard state
+pub seen-left : (t heard : List ℕ) (calls : List Call) → AllAccepted t heard calls → heardLeft heard (seenOf t heard calls) ≡ heardAfter t heard calls
+seen-left t heard calls a =
+    let rs = seenOf t heard calls in
+    let all = as-calls t heard rs (all-seen t heard calls a) in
+    sym (all .left) ∙ all-after t (map callOf rs) heard (all .accepted)
+    ∙ ap (after (pathsOf t) heard) (sent-same rs ∙ seen-pairs t heard calls) ∙ sym (all-after t calls heard a)
 
 -- What the collector holds: a check of the table, a valid heard state, and calls on it. No entry has refused.
 pub record Collected (t rows ring numbers rowsNow ringNow numbersNow heard : List ℕ) (rs : List Seen) : Type 0 where
@@ -174,8 +208,7 @@ collectable t heard calls accepted valid each rows ring numbers d e f =
     record { check = (sym (code-none _ none-left), (refl, (refl, refl))); state = valid; calls = all-seen t heard calls each }
 
 module _ (t rows ring numbers rowsNow ringNow numbersNow heard : List ℕ) (rs : List Seen)
-    (held : Collected t rows ring numbers rowsNow ringNow numbersNow heard rs) (v : ℕ) (vertex : v < 64)
-    (isStage : getD (rowAt rowsNow v) 0 0 ≤ 63) where
+    (held : Collected t rows ring numbers rowsNow ringNow numbersNow heard rs) where
   none-left : checkRefusalForC t rows ring numbers ≡ none
   none-left = check-zero t rows ring numbers (sym (held .check .0))
 
@@ -185,12 +218,13 @@ module _ (t rows ring numbers rowsNow ringNow numbersNow heard : List ℕ) (rs :
   accepted : refusal t ≡ none
   accepted = check-admitted t rows ring fine
 
-  same-rows : rowsNow ≡ report t .rows
+  -- the rows are the report's
+  pub same-rows : rowsNow ≡ report t .rows
   unfolding rowsForC unless
   same-rows = held .check .1 .0 ∙ rw none-left
 
   -- the number at 4 of the check's numbers is L
-  same-hops : numberAt numbersNow 4 ≡ report t .hops
+  pub same-hops : numberAt numbersNow 4 ≡ report t .hops
   unfolding checkNumbersForC checkNumbers numberBytes unless report
   same-hops =
       let told : numbersNow ≡ wordBytes 8 (checkNumbers t rows ring) = held .check .1 .1 .1 ∙ rw none-left in
@@ -198,52 +232,90 @@ module _ (t rows ring numbers rowsNow ringNow numbersNow heard : List ℕ) (rs :
       ap (λ (l : List ℕ). numberAt l 4) told
       ∙ number-told 8 (checkNumbers t rows ring) 4 (omega arith) (omega (arith, hops, longest-most t accepted)) ∙ hops
 
-  -- the stage that the row of v reports, times the L that the check answered
-  abbrev pub enough : ℕ
-  enough = getD (rowAt rowsNow v) 0 0 * numberAt numbersNow 4
+  -- a router, whose row reports a stage
 
-  given : Given t heard v (getD (rowOf t v) 0 0) (map callOf rs)
-  given =
-      record {
-        table = accepted;
-        row = record { vertex = vertex; stage = refl; isStage = rw same-rows at isStage };
-        state = held .state;
-        each = as-calls t heard rs (held .calls) .accepted;
-      }
+  module _ (v : ℕ) (vertex : v < 64) (isStage : getD (rowAt rowsNow v) 0 0 ≤ 63) where
+    -- the stage that its row reports, times the L that the check answered
+    abbrev pub enough : ℕ
+    enough = getD (rowAt rowsNow v) 0 0 * numberAt numbersNow 4
 
-  enough-is : enough ≡ getD (rowOf t v) 0 0 * report t .hops
-  enough-is = rw (same-rows, same-hops)
+    enough-is : enough ≡ getD (rowOf t v) 0 0 * report t .hops
+    enough-is =
+        ap (λ (l : List ℕ). getD (rowAt l v) 0 0 * numberAt numbersNow 4) same-rows ∙ ap (λ n. getD (rowOf t v) 0 0 * n) same-hops
 
-  -- If it is no more than the rounds that the runs answered together, the router's choice is what its row shows, and stays so.
-  pub collected : enough ≤ roundsSeen rs
-      → (choice (pathsOf t) (heardLeft heard rs) v ≡ pathShown (rowAt rowsNow v)) × Stays t (heardLeft heard rs) v
-  collected h =
-      let all = as-calls t heard rs (held .calls) in
-      let stays = settling-answered t heard v _ (map callOf rs) given (omega (arith, enough-is, all .rounds)) in
-      let here : Stays t (heardLeft heard rs) v = rw (all .left) at stays in
-      (here .now .path ∙ ap (λ (rows : List ℕ). pathShown (rowAt rows v)) (sym same-rows), here)
+    -- rounds of the pairs sent are rounds of the calls
+    as-sent : {n : ℕ}
+        → Contains (listeningPairs t) n (pairsSent rs)
+        → (m : ℕ)
+        → m ≤ n
+        → Contains (listeningPairs t) m (pairsOf (map callOf rs))
+    as-sent {n} rounds m h = contains-fewer (listeningPairs t) m n _ h (rw (← (sent-same rs)) at rounds)
 
-  -- It still is after all calls that may follow.
-  pub collected-later : enough ≤ roundsSeen rs
-      → (later : List Seen)
-      → AllCalled t (heardLeft heard rs) later
-      → choice (pathsOf t) (heardLeft (heardLeft heard rs) later) v ≡ pathShown (rowAt rowsNow v)
-  collected-later h later called =
-      let all = as-calls t (heardLeft heard rs) later called in
-      let then = collected h .1 .afterwards (map callOf later) (all .accepted) .path in
-      ap (λ (x : List ℕ). choice (pathsOf t) x v) (sym (all .left)) ∙ then ∙ ap (λ (x : List ℕ). pathShown (rowAt x v)) (sym same-rows)
+    given : Given t heard v (getD (rowOf t v) 0 0) (map callOf rs)
+    given =
+        record {
+          table = accepted;
+          row = record { vertex = vertex; stage = refl; isStage = rw same-rows at isStage };
+          state = held .state;
+          each = as-calls t heard rs (held .calls) .accepted;
+        }
 
-  -- With one round more the collector sees it in the heard state: every router that listens to it holds the rank in its row.
-  pub collected-heard : suc enough ≤ roundsSeen rs
-      → v ≢ 0
-      → (w : ℕ)
-      → listens (pathsOf t) w v ≡ true
-      → getD (heardLeft heard rs) (64 * w + v) 0 ≡ getD (rowAt rowsNow v) 1 0
-  unfolding heardAfter AllAccepted
-  collected-heard h z w l =
-      let all = as-calls t heard rs (held .calls) in
-      let rounds = contains-fewer (listeningPairs t) (suc (getD (rowOf t v) 0 0 * report t .hops)) _ (pairsOf (map callOf rs)) (omega (arith, enough-is, all .rounds))
-      (answered-contained t heard (map callOf rs) (all .accepted)) in
-      ap (λ (x : List ℕ). getD x (64 * w + v) 0) (sym (all .left))
-      ∙ settling-heard t heard v _ (map callOf rs) given rounds z w l [] tt
-      ∙ ap (λ (rows : List ℕ). getD (rowAt rows v) 1 0) (sym same-rows)
+    -- The router's choice is what its row shows, and stays so; it still is after all calls that may follow; and every router that listens
+    -- to it holds the rank in its row, also after these.
+
+    abbrev pub Chooses : Type 0
+    Chooses = (choice (pathsOf t) (heardLeft heard rs) v ≡ pathShown (rowAt rowsNow v)) × Stays t (heardLeft heard rs) v
+
+    abbrev pub ChoosesLater : Type 0
+    ChoosesLater =
+        (later : List Seen)
+        → AllCalled t (heardLeft heard rs) later
+        → choice (pathsOf t) (heardLeft (heardLeft heard rs) later) v ≡ pathShown (rowAt rowsNow v)
+
+    abbrev pub IsHeard : Type 0
+    IsHeard =
+        v ≢ 0
+        → (w : ℕ)
+        → listens (pathsOf t) w v ≡ true
+        → (later : List Seen)
+        → AllCalled t (heardLeft heard rs) later
+        → getD (heardLeft (heardLeft heard rs) later) (64 * w + v) 0 ≡ getD (rowAt rowsNow v) 1 0
+
+    -- If the pairs that the collector sent contain so many rounds, be it in runs, over cuts between calls or in single steps, the choice is
+    -- what the row shows, and stays so, ..
+    pub collected-contained : Contains (listeningPairs t) enough (pairsSent rs) → Chooses
+    collected-contained rounds =
+        let all = as-calls t heard rs (held .calls) in
+        let stays = settling t heard v _ (map callOf rs) given (as-sent rounds _ (omega (arith, enough-is))) in
+        let here : Stays t (heardLeft heard rs) v = rw (all .left) at stays in
+        (here .now .path ∙ ap (λ (rows : List ℕ). pathShown (rowAt rows v)) (sym same-rows), here)
+
+    -- .. also after all calls that may follow.
+    pub collected-contained-later : Contains (listeningPairs t) enough (pairsSent rs) → ChoosesLater
+    collected-contained-later rounds later called =
+        let all = as-calls t (heardLeft heard rs) later called in
+        let then = collected-contained rounds .1 .afterwards (map callOf later) (all .accepted) .path in
+        ap (λ (x : List ℕ). choice (pathsOf t) x v) (sym (all .left)) ∙ then ∙ ap (λ (x : List ℕ). pathShown (rowAt x v)) (sym same-rows)
+
+    -- With one round more the collector sees it in the heard state.
+    pub collected-contained-heard : Contains (listeningPairs t) (suc enough) (pairsSent rs) → IsHeard
+    collected-contained-heard rounds z w l later called =
+        let first = as-calls t heard rs (held .calls) in
+        let all = as-calls t (heardLeft heard rs) later called in
+        let holds = settling-heard t heard v _ (map callOf rs) given (as-sent rounds _ (omega (arith, enough-is))) z w l (map callOf later) in
+        ap (λ (x : List ℕ). getD x (64 * w + v) 0) (sym (all .left)) ∙ (rw (first .left) at holds) (all .accepted)
+        ∙ ap (λ (rows : List ℕ). getD (rowAt rows v) 1 0) (sym same-rows)
+
+    -- So it is where the rounds that the runs answered are so many: they are rounds of the pairs sent.
+
+    answered : (n : ℕ) → n ≤ roundsSeen rs → Contains (listeningPairs t) n (pairsSent rs)
+    answered n h = contains-fewer (listeningPairs t) n (roundsSeen rs) (pairsSent rs) h (seen-contained t heard rs (held .calls))
+
+    pub collected : enough ≤ roundsSeen rs → Chooses
+    collected h = collected-contained (answered enough h)
+
+    pub collected-later : enough ≤ roundsSeen rs → ChoosesLater
+    collected-later h = collected-contained-later (answered enough h)
+
+    pub collected-heard : suc enough ≤ roundsSeen rs → IsHeard
+    collected-heard h = collected-contained-heard (answered (suc enough) h)

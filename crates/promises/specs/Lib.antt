@@ -1,1 +1,2 @@
 pub mod Collected
+pub mod CollectedExamples
