@@ -2,7 +2,7 @@
 use mathlib.Core.Path.{_≡_, refl, sym, ap, _∙_}
 use mathlib.Core.Logic.{_⊎_, inr, _≢_}
 use mathlib.Core.Bool.{Bool, true, false, not}
-use mathlib.Core.List.{List, [], _∷_}
+use mathlib.Core.List.{List, [], _∷_, map}
 use mathlib.Core.Option.{none}
 use Prim.Native.Nat.{ℕ, zero, suc, _+_, _*_, _/_, _%_, _<_, _≤_}
 use native.Mathlib.Omega.{arith}
@@ -11,14 +11,17 @@ use lib.Seq.{getD-set-same, getD-set-other}
 use lib.IntN.{natAbs}
 use lib.Dec.{eqb, ltb}
 use borrow.Author.Tests.{eqb-true, ne-eqb, ltb-false, lt-ltb, le-ltb, not-false}
-use Rattle.lists.specs.Search.{same}
+use Rattle.lists.specs.Search.{same, thoseBelow}
+use Rattle.lists.specs.FillLaws.{blocks-ext}
+use Rattle.lists.specs.RangeLaws.{those-ext, those-blocks}
 use Rattle.lists.specs.Tests.{by-test, by-equal, by-less, or-none}
 use Rattle.lists.specs.NumberLaws.{difference-most, told-apart, told-first, told-second}
 use Rattle.lists.specs.ListLaws.{first-in-none, all-fail-in, some-at, twice-apart}
-use Rattle.rules.specs.Table.{Path, nextHop, rest, listens, listensAt}
+use Rattle.rules.specs.Table.{Path, nextHop, rest, leadsTo, listens, listensAt}
 use Rattle.rules.specs.Stable.{extends, bestGiven}
 use Rattle.rules.specs.Report.{rankIn}
 use Rattle.rules.specs.Machine.{Pair, offsetOf, speaks, byteFor, pathFor, badAt, badByte, heardFault, lastHeard, choice, step, standingOf, standing, movement}
+use Rattle.rules.specs.Run.{offsetsOf, listeningOffsets}
 use Rattle.laws.specs.Shape.{Permitted, Shaped}
 use Rattle.laws.specs.PathLaws.{Stands, first-among, first-same, place-tells, place-nil, place-most, place-absent}
 
@@ -179,6 +182,15 @@ module _ (paths : ℕ → List Path) where
   pub offset-listens : (p : Pair) → p .speaker < 64 → listensAt paths (offsetOf p) ≡ listens paths (p .listener) (p .speaker)
   unfolding listensAt offsetOf
   offset-listens p s = rw (told-first (p .listener) (p .speaker) s, told-second (p .listener) (p .speaker) s)
+
+  -- the offsets of the listening pairs are the numbers below 4,096 that listen
+  pub offsets-those : listeningOffsets paths ≡ thoseBelow (listensAt paths) 4096
+  unfolding listeningOffsets offsetsOf offsetOf listens
+  offsets-those =
+      sym (those-blocks (listensAt paths) 64 64
+      ∙ blocks-ext (λ v. map (λ u. 64 * v + u) (thoseBelow (λ u. listensAt paths (64 * v + u)) 64)) (offsetsOf paths) 64
+      (λ v h. ap (map (λ u. 64 * v + u)) (those-ext (λ u. listensAt paths (64 * v + u)) (leadsTo (paths v)) 64
+      (λ u l. offset-listens (record { listener = v; speaker = u }) l))))
 
   -- at a listening pair the byte for any path is not bad
   pub offset-good : (p : Pair) (c : Path)

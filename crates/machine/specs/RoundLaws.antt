@@ -17,6 +17,7 @@ use Rattle.lists.specs.SearchLaws.{count-in, count-out, count-most, count-ext, 
 use Rattle.lists.specs.ListLaws.{elem-nil, elem-cons}
 use Rattle.lists.specs.FillLaws.{tabulate-at}
 use Rattle.rules.specs.Table.{Path, listensAt}
+use Rattle.laws.specs.MachineLaws.{offsets-those}
 use Rattle.rules.specs.Run.{more, listeningOffsets, closes}
 use Rattle.laws.specs.RoundLaws.{closes-count}
 use Rattle.machine.specs.Rounds.{markCount, newlyAt, missingAfter, leftAfter, missingFrom, Stamped}
@@ -146,10 +147,10 @@ module _ (paths : ℕ → List Path) where
     module _ (left : ℕ) (taken : left ≡ missing - new) where
       -- none is left where the round closes, and only there
       left-closes : eqb left 0 ≡ closes (listeningOffsets paths) (at ∷ since)
-      unfolding missingFrom listeningOffsets
+      unfolding missingFrom
       left-closes =
           let z : left ≡ missingFrom listening (at ∷ since) = omega (arith, missing-on) in
-          rw z (sym (closes-count listening 4096 (at ∷ since) at small hears))
+          rw (z, offsets-those paths) (sym (closes-count listening 4096 (at ∷ since) at small hears))
 
       module _ (stampsNext : List ℕ) (closedNext missingNext all : ℕ)
           (stamping : stampsNext ≡ set stamps at (closed + 1)) (closing : closedNext ≡ more (eqb left 0) closed)

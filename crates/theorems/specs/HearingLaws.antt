@@ -7,7 +7,7 @@ use native.Mathlib.Omega.{arith}
 use lib.ListN.{length, getD}
 use lib.Dec.{eqb}
 use borrow.Author.Tests.{eq-eqb}
-use Rattle.lists.specs.Search.{elem}
+use Rattle.lists.specs.Search.{anyIn, elem}
 use Rattle.lists.specs.Tests.{both}
 use Rattle.lists.specs.SearchLaws.{any-below}
 use Rattle.lists.specs.RangeLaws.{any-those}
@@ -17,7 +17,7 @@ use Rattle.rules.specs.Machine.{Pair, offsetOf, byteFor, pathFor, lastHeard, ch
 use Rattle.rules.specs.Run.{listeningOffsets}
 use Rattle.rules.specs.Rounds.{Covers, Contains}
 use Rattle.laws.specs.Shape.{Shaped}
-use Rattle.laws.specs.MachineLaws.{offset-listens, listening, byte-tells, heard-in, choice-spoken}
+use Rattle.laws.specs.MachineLaws.{offset-listens, offsets-those, listening, byte-tells, heard-in, choice-spoken}
 use Rattle.laws.specs.RoundLaws.{contains-last}
 use Rattle.theorems.specs.LastingLaws.{InRange, range-parts, after, after-length, Lasting, lasting-later, heard-once}
 
@@ -28,12 +28,12 @@ module _ (paths : ℕ → List Path) (present : ℕ → Bool) (shaped : Shaped p
 
   -- a round activates every listening pair
   round-activates : (v u : ℕ) → listens paths v u ≡ true → (stretch : List Pair) → Covers pairs stretch → elem (64 * v + u) (map offsetOf stretch) ≡ true
-  unfolding listeningOffsets offsetOf elem
+  unfolding offsetOf elem
   round-activates v u l stretch covers =
       let r = listening paths present shaped v u l in
       let here = offset-listens paths (record { listener = v; speaker = u }) (r .speakerSmall) ∙ l in
       covers (64 * v + u)
-      (any-those (listensAt paths) (eqb (64 * v + u)) 4096
+      (ap (anyIn (eqb (64 * v + u))) (offsets-those paths) ∙ any-those (listensAt paths) (eqb (64 * v + u)) 4096
       ∙ any-below (λ k. listensAt paths k && eqb (64 * v + u) k) 4096 (64 * v + u) (omega (arith, r .listenerSmall, r .speakerSmall))
       (both (listensAt paths (64 * v + u)) (eqb (64 * v + u) (64 * v + u)) here (eq-eqb (64 * v + u) (64 * v + u) refl)))
 
