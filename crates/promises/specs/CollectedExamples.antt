@@ -18,7 +18,8 @@ use Rattle.rules.specs.Rounds.{Contains}
 use Rattle.rules.specs.Refusals.{refusal}
 use Rattle.rules.specs.Answers.{firstBadPair, heardAfterStep}
 use Rattle.rules.specs.Entries.{rowsForC, ringForC, checkNumbersForC, heardStepForC}
-use Rattle.rules.specs.Examples.{recordBytes, blockBytes, tableBytes, table7}
+use Rattle.rules.specs.TriedExamples.{rawRecord, recordBytes, blockBytes, tableBytes}
+use Rattle.rules.specs.CheckExamples.{table7}
 use Rattle.laws.specs.EntryLaws.{numberAt}
 use Rattle.laws.specs.AnswerLaws.{step-accepted}
 use Rattle.laws.specs.RunLaws.{noPair, all-listen}

@@ -19,4 +19,5 @@ pub mod RunExamples
 pub mod TextExamples
 pub mod EntryExamples
 pub mod SmallExamples
+pub mod StatementExamples
 pub mod Examples

@@ -14,7 +14,7 @@ use Rattle.rules.specs.Table.{Path, pathsOf}
 use Rattle.rules.specs.Machine.{Pair, offsetOf, byteFor, choice, step}
 use Rattle.rules.specs.Run.{pairsIn}
 use Rattle.rules.specs.Answers.{heardAfterStep}
-use Rattle.rules.specs.Examples.{tableBytes}
+use Rattle.rules.specs.TriedExamples.{tableBytes}
 
 -- DISAGREE, Figure 1b, and table 3 of the rules page. Table 3 has its four paths, and Table 2 no others; the proof of
 -- Property 3.1 says that (v u 0) is v's best.

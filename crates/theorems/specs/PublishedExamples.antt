@@ -6,7 +6,7 @@ use mathlib.Core.Bool.{false}
 use mathlib.Core.List.{List, [], _∷_, _++_, map}
 use mathlib.Core.Option.{none}
 use native.Mathlib.Omega.{arith}
-use lib.ListN.{getD, length, take, drop}
+use lib.ListN.{getD, length, take, drop, replicate}
 use Rattle.lists.specs.Search.{outside, firstFrom, anyBelow, countBelow, thoseBelow, anyIn, firstIn, elem, same, maxBelow, twice}
 use Rattle.lists.specs.NumberLaws.{by-number}
 use Rattle.lists.specs.Tests.{by-test}
@@ -19,36 +19,38 @@ use Rattle.rules.specs.Stable.{Stable, extends, bestGiven}
 use Rattle.rules.specs.Report.{placeIn, rankIn, rowBytes, row, rowAt, vertices, pathShown, report}
 use Rattle.rules.specs.Machine.{offsetOf, speaks, byteFor, pathFor, badAt, badByte, heardFault, lastHeard, choice, step}
 use Rattle.rules.specs.Run.{pairsIn}
+use Rattle.rules.specs.Answers.{stuck, verdictOf}
 use Rattle.laws.specs.PathLaws.{first-head, first-tail}
 use Rattle.laws.specs.MachineLaws.{choice-other, heard-in}
-use Rattle.rules.specs.Examples.{Example, check, checked, lineOf, checkedOf, outcome, recordBytes, blockBytes, tableBytes}
+use Rattle.rules.specs.TriedExamples.{Example, check, checked, checkedOf, unlessRefused, outcome, rawRecord, recordBytes, blockBytes, tableBytes, shown, origin, absent, _gives_}
 use Rattle.theorems.specs.Claims.{Call, AllAccepted, heardAfter, pairsOf, Rests, storedByte}
 use Rattle.theorems.specs.CallLaws.{all-after, all-range}
 use Rattle.theorems.specs.RestingPoints.{rests-resting, resting-stable}
 use Rattle.theorems.specs.PublishedLaws.{Stores, otherStored, stored-rests, Crossed, never-crossed, StableState, Routers, unstable, everyDraw, samePaths, Only, tested-stable, stable-named}
 use Rattle.theorems.specs.Published.{disagree, badGadget, bleedinEdge, diSafeGree, disagreeBytes, badGadgetBytes, bleedinEdgeBytes, diSafeGreeBytes, assigned, routersPaths, disagreeFirst, disagreeSecond, bleedinStable, diSafeGreeStable, table2, table4Begin, table4Moment, table4End, table4, disagreeTwoFirst, disagreeOneFirst, badGadgetRound, badGadgetRounds, edgeFourFirst, edgeTwoFirst, bleedinRound, diSafeGreeRows, atOnce, oneByOne, afterRows, selectedIn, selectedAfter, AtOnce, OneByOne, nothingHeard, directHeard, rowThree, rowNine}
 
--- What the first check says of each: a line is a router, its stage (255 for stuck), and its rank and path; then stages,
--- longest and ring. 001 has the first check of DI-SAFE-GREE alone, in section 4: "At the first iteration, vertex 1 enters the stable set .. At the
--- second iteration, the algorithm forcedly stops."
+-- What the first check says of each: the verdict, its numbers (ring length, settled, stuck, stages, longest), the rows and the ring. 001 has the
+-- first check of DI-SAFE-GREE alone, in section 4: "At the first iteration, vertex 1 enters the stable set .. At the second iteration, the
+-- algorithm forcedly stops."
 unfoldable pub checks : List Example
 checks =
-    record {
-      input = check disagree;
-      expected = checked ((1 ∷ 255 ∷ 1 ∷ 1 ∷ 2 ∷ 0 ∷ []) ∷ (2 ∷ 255 ∷ 1 ∷ 2 ∷ 1 ∷ 0 ∷ []) ∷ []) 0 2 (1 ∷ 2 ∷ []);
-    }
-    ∷ record {
-      input = check badGadget;
-      expected = checked ((1 ∷ 255 ∷ 1 ∷ 1 ∷ 3 ∷ 0 ∷ []) ∷ (2 ∷ 255 ∷ 1 ∷ 2 ∷ 1 ∷ 0 ∷ []) ∷ (3 ∷ 255 ∷ 1 ∷ 3 ∷ 2 ∷ 0 ∷ []) ∷ []) 0 2 (1 ∷ 3 ∷ 2 ∷ []);
-    }
-    ∷ record {
-      input = check bleedinEdge;
-      expected = checked ((1 ∷ 255 ∷ 1 ∷ 1 ∷ 2 ∷ 4 ∷ 0 ∷ []) ∷ (2 ∷ 255 ∷ 1 ∷ 2 ∷ 4 ∷ 3 ∷ 0 ∷ []) ∷ (3 ∷ 255 ∷ 1 ∷ 3 ∷ 2 ∷ 1 ∷ 0 ∷ []) ∷ (4 ∷ 255 ∷ 1 ∷ 4 ∷ 3 ∷ 0 ∷ []) ∷ []) 0 3 (2 ∷ 4 ∷ 3 ∷ []);
-    }
-    ∷ record {
-      input = check diSafeGree;
-      expected = checked ((1 ∷ 1 ∷ 1 ∷ 1 ∷ 0 ∷ []) ∷ (2 ∷ 255 ∷ 1 ∷ 2 ∷ 3 ∷ 0 ∷ []) ∷ (3 ∷ 255 ∷ 1 ∷ 3 ∷ 2 ∷ 0 ∷ []) ∷ []) 1 2 (2 ∷ 3 ∷ []);
-    }
+    (check disagreeBytes gives checked (stuck 2) (2 ∷ 0 ∷ 2 ∷ 0 ∷ 2 ∷ [])
+    (origin ++ shown 255 1 2 (1 ∷ 2 ∷ 0 ∷ []) ++ shown 255 1 2 (2 ∷ 1 ∷ 0 ∷ []) ++ absent 61)
+    (1 ∷ 2 ∷ replicate 62 255))
+    ∷ (check badGadgetBytes gives checked (stuck 3) (3 ∷ 0 ∷ 3 ∷ 0 ∷ 2 ∷ [])
+    (origin ++ shown 255 1 2 (1 ∷ 3 ∷ 0 ∷ []) ++ shown 255 1 2 (2 ∷ 1 ∷ 0 ∷ []) ++ shown 255 1 2 (3 ∷ 2 ∷ 0 ∷ []) ++ absent 60)
+    (1 ∷ 3 ∷ 2 ∷ replicate 61 255))
+    ∷ (check bleedinEdgeBytes gives checked (stuck 3) (3 ∷ 0 ∷ 4 ∷ 0 ∷ 3 ∷ [])
+    (origin
+    ++ shown 255 1 3 (1 ∷ 2 ∷ 4 ∷ 0 ∷ [])
+    ++ shown 255 1 3 (2 ∷ 4 ∷ 3 ∷ 0 ∷ [])
+    ++ shown 255 1 3 (3 ∷ 2 ∷ 1 ∷ 0 ∷ [])
+    ++ shown 255 1 2 (4 ∷ 3 ∷ 0 ∷ [])
+    ++ absent 59)
+    (2 ∷ 4 ∷ 3 ∷ replicate 61 255))
+    ∷ (check diSafeGreeBytes gives checked (stuck 2) (2 ∷ 1 ∷ 2 ∷ 1 ∷ 2 ∷ [])
+    (origin ++ shown 1 1 1 (1 ∷ 0 ∷ []) ++ shown 255 1 2 (2 ∷ 3 ∷ 0 ∷ []) ++ shown 255 1 2 (3 ∷ 2 ∷ 0 ∷ []) ++ absent 60)
+    (2 ∷ 3 ∷ replicate 62 255))
     ∷ []
 
 pub published-checked : map (λ e. outcome (e .input)) checks ≡ map (λ e. e .expected) checks
@@ -58,8 +60,8 @@ unfolding refusedIf refusedAt _orElse_ outside firstFrom anyBelow
     unusedOf fillerBad twice twiceBad lastBad ownerBad rankDue rankBad pathBad inRecord rule recordRules firstBroken
     fault faulty firstBad badRecord tooLong ragged refusal isSettled compatible atStart best judged stage settledList settled
     enters isQuiet stagesFrom stagesUntil stageCount stageOf stuckIn follows fromVertex beforeVertex closedPart lowestOf turned ringFrom
-    placeIn rankIn rowBytes row report rowAt vertices pathShown recordBytes blockBytes tableBytes lineOf checkedOf outcome
-    disagree badGadget bleedinEdge diSafeGree checks
+    placeIn rankIn rowBytes row report verdictOf rawRecord recordBytes blockBytes tableBytes shown absent checkedOf unlessRefused outcome
+    disagree badGadget bleedinEdge diSafeGree disagreeBytes badGadgetBytes bleedinEdgeBytes diSafeGreeBytes checks
 published-checked = refl
 
 -- What is found by computing.
@@ -98,7 +100,7 @@ unfolding outside anyBelow anyIn firstIn elem same maxBelow twice tabulate padde
     refusedIf refusedAt _orElse_ recordAt records rankOf hopsOf pathOf ownerOf owned pathsBelow pathsOf present nextHop rest first listens listensAt
     hopsBad vertexBad unusedOf fillerBad twiceBad lastBad ownerBad rankDue rankBad pathBad inRecord rule recordRules firstBroken
     fault faulty firstBad badRecord tooLong ragged refusal extends bestGiven placeIn speaks byteFor pathFor badAt badByte heardFault
-    recordBytes blockBytes tableBytes disagree badGadget bleedinEdge diSafeGree disagreeBytes badGadgetBytes bleedinEdgeBytes diSafeGreeBytes
+    rawRecord recordBytes blockBytes tableBytes disagree badGadget bleedinEdge diSafeGree disagreeBytes badGadgetBytes bleedinEdgeBytes diSafeGreeBytes
     assigned disagreeFirst disagreeSecond bleedinStable diSafeGreeStable nothingHeard directHeard rowThree rowNine unstable everyDraw samePaths
 computed =
     record {
@@ -165,7 +167,7 @@ pub record Followed : Type 0 where
 pub followed : Followed
 unfolding outside anyBelow thoseBelow anyIn firstIn elem same tabulate foldLeft padded recordAt records rankOf
     hopsOf pathOf ownerOf owned pathsBelow pathsOf nextHop rest first listens listensAt extends bestGiven placeIn offsetOf speaks byteFor pathFor
-    lastHeard choice step pairsIn recordBytes blockBytes tableBytes storedByte otherStored
+    lastHeard choice step pairsIn rawRecord recordBytes blockBytes tableBytes storedByte otherStored
     disagree badGadget bleedinEdge diSafeGree disagreeBytes badGadgetBytes bleedinEdgeBytes diSafeGreeBytes
     assigned routersPaths disagreeFirst disagreeSecond bleedinStable diSafeGreeStable table2 table4Begin table4Moment table4End table4
     disagreeTwoFirst disagreeOneFirst badGadgetRound badGadgetRounds edgeFourFirst edgeTwoFirst bleedinRound diSafeGreeRows

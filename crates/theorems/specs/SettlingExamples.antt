@@ -20,10 +20,11 @@ use Rattle.rules.specs.Greedy.{isSettled, compatible, atStart, best, judged, st
 use Rattle.rules.specs.Stable.{Stable, extends, bestGiven}
 use Rattle.rules.specs.Report.{placeIn, rankIn, rowBytes, row, rowAt, vertices, pathShown, report}
 use Rattle.rules.specs.Machine.{offsetOf, speaks, byteFor, pathFor, badAt, badByte, heardFault, lastHeard, choice, step, standingOf, standing, movement}
-use Rattle.rules.specs.Run.{pairsIn, isUp, isDown, more, listeningOffsets, closes, begun, activated, run}
+use Rattle.rules.specs.Run.{pairsIn, isUp, isDown, more, offsetsOf, listeningOffsets, closes, begun, activated, run}
 use Rattle.rules.specs.Rounds.{Contains}
 use Rattle.rules.specs.Answers.{complete, verdictOf, otherLength, scheduleBad, firstBadPair, stepRefusal, runRefusal, runNumbers, heardAfterStep, heardAfterRun, unless}
-use Rattle.rules.specs.Examples.{recordBytes, blockBytes, tableBytes, table7}
+use Rattle.rules.specs.TriedExamples.{rawRecord, recordBytes, blockBytes, tableBytes}
+use Rattle.rules.specs.CheckExamples.{table7}
 use Rattle.laws.specs.RoundLaws.{closes-all, rounds-contained, contains-none, contains-more, contains-fewer}
 use Rattle.theorems.specs.Claims.{Call, ofRun, ofStep, callRefusal, heardAfterCall, pairsOfCall, roundsOfCall, AllAccepted, heardAfter, pairsOf, roundsAnswered, listeningPairs, Given, rowOf, Stays}
 use Rattle.theorems.specs.Settling.{Settling, settling}
@@ -137,8 +138,8 @@ unfolding refusedIf refusedAt _orElse_ otherLength scheduleBad firstBadPair step
     fault faulty firstBad badRecord tooLong ragged refusal isSettled compatible atStart best judged stage settledList settled
     enters isQuiet stagesFrom stagesUntil stageCount stageOf stuckIn follows fromVertex beforeVertex closedPart lowestOf turned ringFrom
     extends bestGiven placeIn rankIn rowBytes row report rowAt offsetOf speaks byteFor pathFor badAt badByte heardFault lastHeard
-    choice step standingOf standing movement pairsIn isUp isDown more listeningOffsets closes begun activated run
-    recordBytes blockBytes tableBytes table7 callRefusal heardAfterCall pairsOfCall AllAccepted pairsOf zeros leftover slowRound times aRun sixRounds twoRounds threePairs threeTwice
+    choice step standingOf standing movement pairsIn isUp isDown more offsetsOf listeningOffsets closes begun activated run
+    rawRecord recordBytes blockBytes tableBytes callRefusal heardAfterCall pairsOfCall AllAccepted pairsOf zeros leftover slowRound times aRun sixRounds twoRounds threePairs threeTwice
     table2Bytes table7Bytes vertices pathShown heardAfter roundsAnswered roundsOfCall runNumbers verdictOf
 computed =
     record {
