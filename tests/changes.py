@@ -212,8 +212,8 @@ def exchanged_arguments(place, head, given):
 
 
 def exchange_bodies(text, kind, one, other):
-    """Of two cases, each the names bound and the body: the bodies exchanged, or where one needs what its own case binds,
-    the other's in its place too."""
+    """Of two cases, each the names that it binds and its body: the bodies exchanged; or, where one needs what its own
+    case binds, the other in its place too."""
     (left_bound, left), (right_bound, right) = one, other
     left_needs = {leaf.text for leaf in antt.leaves(left)} & (left_bound - right_bound)
     right_needs = {leaf.text for leaf in antt.leaves(right)} & (right_bound - left_bound)
@@ -309,9 +309,8 @@ class World:
 
     def types(self, used, user):
         """The types of a definition as its user writes it: parameters of modules that both stand in are not written."""
-        shared = {variable.name for variable in user.scope} if used.file == user.file and used.modules and (
-            used.modules[0] in user.modules
-        ) else set()
+        inside = used.file == user.file and {*used.modules} & {*user.modules}
+        shared = {variable.name for variable in user.scope} if inside else set()
         return (*(found.type for found in used.scope if found.name not in shared), *used.types)
 
     def beside(self, used, user):
@@ -398,4 +397,6 @@ def bring(text, pattern, module, name):
         return text
     if line:
         return text[: line.end() - 1] + f", {name}" + text[line.end() - 1 :]
-    return text if module is None else re.sub(r"^use ", f"use {module}.{{{name}}}\nuse ", text, count=1, flags=re.MULTILINE)
+    if module is None:
+        return text
+    return re.sub(r"^use ", f"use {module}.{{{name}}}\nuse ", text, count=1, flags=re.MULTILINE)

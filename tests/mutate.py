@@ -34,7 +34,7 @@ SAME = Path(__file__).resolve().parent / "mutants_same.txt"
 # The files of crates/lists that have definitions; the rest of that crate are laws, which are no examples.
 LISTS = ("Search.antt", "Fill.antt", "Fold.antt")
 # A check has so many seconds of the processor, however busy the machine is; and so many by the clock.
-CPU_SECONDS = 30
+CPU_SECONDS = 15
 CLOCK_SECONDS = 300
 ERROR = re.compile(r"^(\S+\.antt):\d+:\d+: error: .*$", re.MULTILINE)
 
@@ -81,7 +81,7 @@ def lay_out(root, folder):
 
 
 def run(folder, *words):
-    """Runs rt in a scratch repository within the limits; gives its exit status, none where it was stopped, and output."""
+    """Runs rt in a scratch repository within the limits; gives its exit status, none by the clock, and its output."""
     limited = ["sh", "-c", f'ulimit -t {CPU_SECONDS}; exec "$@"', "sh", "rt", *words]
     with tempfile.TemporaryFile() as out:
         process = subprocess.Popen(
@@ -165,11 +165,20 @@ def check_all(root, chosen, jobs, tell):
                 free.put(scratch)
 
         with ThreadPoolExecutor(jobs) as pool:
-            results = []
-            for result in pool.map(one, chosen):
-                tell(result)
-                results.append(result)
-        return results
+            return told(pool, pool.map(one, chosen), tell)
+
+
+def told(pool, coming, tell):
+    """All results, each told as it comes; where one breaks off, the others are not begun."""
+    results = []
+    try:
+        for result in coming:
+            tell(result)
+            results.append(result)
+    except BaseException:
+        pool.shutdown(cancel_futures=True)
+        raise
+    return results
 
 
 # ---- what is known to be the same
@@ -182,8 +191,13 @@ class Same(NamedTuple):
     line: int
 
     def matches(self, change):
-        whole = self.definition == f"{change.file.removesuffix('.antt')}.{change.definition}"
-        return whole and change.before.count(self.old) == 1 and change.before.replace(self.old, self.new) == change.after
+        if self.definition != full_name(change) or change.before.count(self.old) != 1:
+            return False
+        return change.before.replace(self.old, self.new) == change.after
+
+
+def full_name(change):
+    return f"{change.file.removesuffix('.antt')}.{change.definition}"
 
 
 def read_same(text):
@@ -210,7 +224,7 @@ def known_same(entries, candidates):
 
 
 def fragments(before, after):
-    """The least part of a definition, in whole words, that is there once and in which a change lies; and what it becomes."""
+    """The least part of a definition in whole words that is there once and holds a change; and what it becomes."""
     front = len(os.path.commonprefix([before, after]))
     back = len(os.path.commonprefix([before[front:][::-1], after[front:][::-1]]))
     end = len(before) - back
@@ -230,19 +244,20 @@ def show(result):
     """A survivor as a line, in the form that the file of known changes has."""
     change = result.change
     old, new = fragments(change.before, change.after)
-    return f"{change.name}: {change.file.removesuffix('.antt')}.{change.definition}: {old} => {new}"
+    return f"{change.name}: {full_name(change)}: {old} => {new}"
 
 
 def summary(results, known):
     """The lines at the end, and whether the examples notice all that they should."""
-    statuses = [KNOWN if result.change.name in known and result.status == SURVIVED else result.status for result in results]
+    named = [result.change.name in known for result in results]
+    statuses = [KNOWN if same and result.status == SURVIVED else result.status for result, same in zip(results, named)]
     counts = {status: statuses.count(status) for status in (NOTICED, SURVIVED, ILL_FORMED, SLOW, KNOWN)}
     lines = [f"survived: {show(result)}" for result, status in zip(results, statuses) if status == SURVIVED]
     lines += [f"slow: {show(result)} ({result.error})" for result in results if result.status == SLOW]
     lines += [
         f"noticed, and yet in {SAME.name}: {show(result)}"
-        for result in results
-        if result.change.name in known and result.status != SURVIVED
+        for result, same in zip(results, named)
+        if same and result.status != SURVIVED
     ]
     lines.append(
         f"{len(results)} changes: {counts[NOTICED] + counts[SLOW]} noticed, {counts[SURVIVED]} survived,"
