@@ -5,7 +5,7 @@ from itertools import pairwise
 from typing import NamedTuple
 
 import antt
-from antt import Group, Leaf, written
+from antt import Group, Leaf
 
 # The library's names that a change may bring in, by the module that has them.
 HOMES = {
@@ -24,6 +24,8 @@ EXCHANGED = {
     ),
     "take-drop-exchanged": (("take", "drop"), ("drop", "take")),
 }
+# Functions that do not care for the order of their arguments.
+SYMMETRIC = {"same"}
 KINDS = (
     *EXCHANGED,
     *("number-up", "number-down", "letter-changed", "blank-dropped"),
@@ -125,20 +127,19 @@ def strings(place):
                 yield "blank-dropped", put(leaf, f'"{inner[:-1]}"')
 
 
-def neighbour(found, names):
-    """The name after the found one, the first after the last; nothing where there is no other."""
-    at = names.index(found)
-    return names[(at + 1) % len(names)] if len(names) > 1 else None
+def neighbour(found, types):
+    """The next name of the same type, the first after the last; nothing where there is no other."""
+    alike = [name for name, type_ in types.items() if type_ == types[found]]
+    return alike[(alike.index(found) + 1) % len(alike)] if len(alike) > 1 else None
 
 
 def projections(place):
     for leaf in place.items:
         field = leaf.text[1:] if isinstance(leaf, Leaf) and leaf.text.startswith(".") else None
-        for fields in place.world.records:
-            if field in fields:
-                other = neighbour(field, [name for name in fields if fields[name] == fields[field]])
-                if other:
-                    yield "projection-exchanged", put(leaf, f".{other}")
+        for types in place.world.records:
+            other = neighbour(field, types) if field in types else None
+            if other:
+                yield "projection-exchanged", put(leaf, f".{other}")
 
 
 def variables(place):
@@ -146,11 +147,10 @@ def variables(place):
     for leaf in place.items:
         if not isinstance(leaf, Leaf) or leaf not in place.last:
             continue
-        scope = {found.name: found.type for found in place.variables if found.start <= leaf.start < found.end}
-        if scope.get(leaf.text):
-            other = neighbour(leaf.text, [name for name in scope if scope[name] == scope[leaf.text]])
-            if other:
-                yield "variable-exchanged", put(leaf, other)
+        types = {found.name: found.type for found in place.variables if found.start <= leaf.start < found.end}
+        other = neighbour(leaf.text, types) if types.get(leaf.text) else None
+        if other:
+            yield "variable-exchanged", put(leaf, other)
 
 
 def names(place):
@@ -203,7 +203,7 @@ def calls(place):
 
 def exchanged_arguments(place, head, given):
     used = place.world.named(head.text, place.definition)
-    if used:
+    if used and head.text not in SYMMETRIC:
         until = [isinstance(item, Leaf) and item.text.startswith(".") for item in [*given, Leaf(".", 0, 0)]].index(True)
         types = place.world.types(used, place.definition)[:-1]
         for (one, left), (other, right) in pairwise(zip(given[:until], types)):
@@ -244,7 +244,7 @@ def fields(place, group):
         name, *body = antt.split(part, {"="})[0]
         if body and body[0]:
             made.append((name[0].text, part[2:]))
-    declared = next((fields for fields in place.world.records if {name for name, _ in made} <= {*fields}), {})
+    declared = next((types for types in place.world.records if {name for name, _ in made} <= {*types}), {})
     for (one, left), (other, right) in pairwise(made):
         if declared.get(one) == declared.get(other):
             yield "fields-exchanged", exchange(place.text, left, right)
@@ -299,7 +299,7 @@ class World:
     def __init__(self, files):
         self.files = files  # the text of each file
         self.definitions = [found for file, text in files.items() for found in antt.definitions(file, text)]
-        self.records = [fields for file, text in files.items() for fields in antt.records(file, text)]
+        self.records = [types for file, text in files.items() for types in antt.records(file, text)]
         self.by_name = {found.name: found for found in self.definitions}
 
     def named(self, name, user):

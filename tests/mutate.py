@@ -273,6 +273,8 @@ def chosen_by(options, candidates):
         file, _, definition = options.only.partition(":")
         names = {file, f"{file}.antt"}
         candidates = [change for change in candidates if change.file in names and definition in {"", change.definition}]
+    if options.kind:
+        candidates = [change for change in candidates if change.kind in options.kind]
     if options.sample is not None and options.sample < len(candidates):
         taken = set(random.Random(options.seed).sample(range(len(candidates)), options.sample))
         candidates = [change for k, change in enumerate(candidates) if k in taken]
@@ -292,6 +294,7 @@ def read_options(words):
     parser.add_argument("--sample", type=int, help="try so many of the changes")
     parser.add_argument("--seed", type=int, default=1, help="which ones")
     parser.add_argument("--only", metavar="FILE[:DEFINITION]")
+    parser.add_argument("--kind", nargs="+", choices=changes.KINDS, metavar="KIND", help="of these kinds alone")
     parser.add_argument("--name", help="one change: print its difference and the first error")
     parser.add_argument("--list", action="store_true", help="print the changes and try none")
     parser.add_argument("--jobs", type=int, default=os.cpu_count() or 1)

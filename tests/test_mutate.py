@@ -218,13 +218,15 @@ class Known(unittest.TestCase):
             mutate.read_same("Made.known: n 3) => n 4)")
 
     def test_what_is_printed_can_be_an_entry(self):
-        for change in made():
+        own = list(changes.World(mutate.sources(mutate.ROOT)).changes())
+        for change in made() + own:
             line = mutate.show(mutate.Result(change, "", "", 0)).removeprefix(f"{change.name}: ")
-            self.assertIn(change.name, self.names(f"{line} # as printed"), line)
+            [entry] = mutate.read_same(f"{line} # as printed")
+            self.assertTrue(entry.matches(change), line)
 
     def test_the_projects_own_file_holds(self):
-        candidates = list(changes.World(mutate.sources(mutate.ROOT)).changes())
-        mutate.known_same(mutate.read_same(mutate.SAME.read_text(encoding="utf-8")), candidates)
+        own = list(changes.World(mutate.sources(mutate.ROOT)).changes())
+        mutate.known_same(mutate.read_same(mutate.SAME.read_text(encoding="utf-8")), own)
 
 
 class Summed(unittest.TestCase):
@@ -262,6 +264,7 @@ class Chosen(unittest.TestCase):
     def test_one_file_or_definition(self):
         self.assertEqual(self.chosen("--only", "Made"), self.chosen())
         self.assertTrue(0 < len(self.chosen("--only", "Made.antt:kind")) < 5)
+        self.assertEqual(len(self.chosen("--only", "Made:size", "--kind", "number-up")), 2)
         name = self.chosen()[3]
         self.assertEqual(self.chosen("--name", name), [name])
 
