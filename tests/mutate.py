@@ -13,9 +13,11 @@ docs/TESTING.md says what the results mean.
 
 import argparse
 import difflib
+import math
 import os
 import random
 import re
+import resource
 import shutil
 import signal
 import subprocess
@@ -33,7 +35,9 @@ ROOT = Path(__file__).resolve().parent.parent
 SAME = Path(__file__).resolve().parent / "mutants_same.txt"
 # The files of crates/lists that have definitions; the rest of that crate are laws, which are no examples.
 LISTS = ("Search.antt", "Fill.antt", "Fold.antt")
-# A check has so many seconds of the processor, however busy the machine is; and so many by the clock.
+# A check may need so many times what the unchanged one needs of the processor, and at least so many seconds of it,
+# however busy the machine is; and so many seconds by the clock.
+TIMES = 5
 CPU_SECONDS = 15
 CLOCK_SECONDS = 300
 ERROR = re.compile(r"^(\S+\.antt):\d+:\d+: error: .*$", re.MULTILINE)
@@ -80,9 +84,9 @@ def lay_out(root, folder):
     (folder / "crates.txt").write_text("lists:\nrules: lists\n", encoding="utf-8")
 
 
-def run(folder, *words):
-    """Runs rt in a scratch repository within the limits; gives its exit status, none by the clock, and its output."""
-    limited = ["sh", "-c", f'ulimit -t {CPU_SECONDS}; exec "$@"', "sh", "rt", *words]
+def run(folder, seconds):
+    """Checks a scratch repository within the limits; gives the exit status, none by the clock, and the output."""
+    limited = ["sh", "-c", f'ulimit -t {seconds}; exec "$@"', "sh", "rt", "dev", "rules"]
     with tempfile.TemporaryFile() as out:
         process = subprocess.Popen(
             limited, cwd=folder, stdin=subprocess.DEVNULL, stdout=out, stderr=out, start_new_session=True
@@ -95,6 +99,12 @@ def run(folder, *words):
             status = None
         out.seek(0)
         return status, out.read().decode("utf-8", errors="replace")
+
+
+def processor_seconds():
+    """What all ended checks have needed so far."""
+    used = resource.getrusage(resource.RUSAGE_CHILDREN)
+    return used.ru_utime + used.ru_stime
 
 
 def judge(status, output):
@@ -114,18 +124,20 @@ def judge(status, output):
 class Scratch:
     """A scratch repository; every check begins from what the unchanged definitions left."""
 
-    def __init__(self, folder, kept):
-        self.folder, self.kept = folder, kept
+    def __init__(self, folder, kept, seconds=CLOCK_SECONDS):
+        self.folder, self.kept, self.seconds = folder, kept, seconds
 
     def path(self, file):
         return self.folder / "crates" / ("lists" if file in LISTS else "rules") / "specs" / file
 
     def prepare(self, root):
-        """Proves the unchanged definitions, and keeps what that leaves."""
+        """Proves the unchanged definitions, and keeps what that leaves; the time it needs is the measure for others."""
         lay_out(root, self.folder)
-        status, output = run(self.folder, "dev", "rules")
+        before = processor_seconds()
+        status, output = run(self.folder, self.seconds)
         if status != 0:
             raise Broken(f"the unchanged definitions are not proved:\n{output}")
+        self.seconds = max(CPU_SECONDS, math.ceil(TIMES * (processor_seconds() - before)))
         (self.folder / "target").rename(self.kept)
 
     def again(self):
@@ -138,7 +150,7 @@ class Scratch:
         path.write_text(change.text, encoding="utf-8")
         try:
             self.again()
-            status, error = judge(*run(self.folder, "dev", "rules"))
+            status, error = judge(*run(self.folder, self.seconds))
         finally:
             path.write_bytes(unchanged)
         return Result(change, status, error.replace(f"{self.folder}/", ""), time.monotonic() - start)
@@ -155,7 +167,7 @@ def check_all(root, chosen, jobs, tell):
         free.put(first)
         for k in range(1, jobs):
             shutil.copytree(first.folder, Path(holder) / str(k))
-            free.put(Scratch(Path(holder) / str(k), kept))
+            free.put(Scratch(Path(holder) / str(k), kept, first.seconds))
 
         def one(change):
             scratch = free.get()

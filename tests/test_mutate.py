@@ -333,9 +333,15 @@ class Small(Folder):
         (self.root / "rt").chmod(0o755)
         path = f"{self.root}:{os.environ['PATH']}"
         with mock.patch.dict(os.environ, PATH=path), mock.patch.object(mutate, "CLOCK_SECONDS", 1):
-            self.assertEqual(mutate.run(self.root, "dev", "rules"), (None, ""))
+            self.assertEqual(mutate.run(self.root, 60), (None, ""))
         status = Path("/proc", (self.root / "child").read_text().strip(), "status")
         self.assertTrue(not status.exists() or "zombie" in status.read_text())
+
+    def test_a_check_that_needs_too_much_of_the_processor(self):
+        self.write("rt", "#!/bin/sh\nwhile :; do :; done\n")
+        (self.root / "rt").chmod(0o755)
+        with mock.patch.dict(os.environ, PATH=f"{self.root}:{os.environ['PATH']}"):
+            self.assertEqual(mutate.judge(*mutate.run(self.root, 1))[0], "slow")
 
 
 class Project(unittest.TestCase):
