@@ -115,10 +115,10 @@ def judge(status, output):
     if status == 1 and errors:
         bad = [line for path, line in errors if not is_example(path)]
         return (ILL_FORMED, bad[0]) if bad else (NOTICED, errors[0][1])
-    if status == 1:
-        raise Broken(f"a check failed without the place of an error:\n{output}")
-    # Stopped at a limit, or the prover could not tell: the gate would not take it, and it is no survivor.
-    return SLOW, f"status {status}"
+    # Stopped at a limit or by a signal, or the prover could not tell: the gate would not take it, so it is no survivor.
+    if status is None or status == 3 or not 0 <= status <= 128:
+        return SLOW, f"status {status}"
+    raise Broken(f"a check ended with status {status} and without the place of an error:\n{output}")
 
 
 class Scratch:
