@@ -10,9 +10,9 @@ use lib.Dec.{ltb}
 use Rattle.lists.specs.Search.{firstIn, outside}
 use Rattle.rules.specs.Table.{Path, pathsOf, listens}
 use Rattle.rules.specs.Refusals.{Refusal, refusedIf, refusedAt, _orElse_, refusal}
-use Rattle.rules.specs.Report.{report}
+use Rattle.rules.specs.Report.{numbersOf, report}
 use Rattle.rules.specs.Machine.{Pair, heardFault, choiceBytes, step, movement}
-use Rattle.rules.specs.Run.{pairsIn, run}
+use Rattle.rules.specs.Run.{pairsIn, countsOf, run}
 
 -- "1: a lent rows, ring, state or movement buffer .. has another length"
 unfoldable pub otherLength : {A : Type 0} → ℕ → List A → Bool
@@ -72,8 +72,7 @@ checkVerdict t rows ring = verdict (checkRefusal t rows ring) (verdictOf (report
 -- "The counts are settled and stuck vertices (without vertex 0), s and L, all 0 when refused", after the ring's length
 unfoldable pub checkNumbers : List ℕ → List ℕ → List ℕ → List ℕ
 checkNumbers t rows ring =
-    let r = report t in
-    unless (checkRefusal t rows ring) (r .ringLength ∷ r .settledCount ∷ r .stuckCount ∷ r .stages ∷ r .hops ∷ []) (replicate 5 0)
+    unless (checkRefusal t rows ring) (numbersOf (report t)) (replicate 5 0)
 
 unfoldable pub rowsAfter : List ℕ → List ℕ → List ℕ → List ℕ
 rowsAfter t rows ring = unless (checkRefusal t rows ring) (report t .rows) rows
@@ -95,8 +94,7 @@ choicesIn t heard = unless (refusal t) (choiceBytes (pathsOf t) heard) (replicat
 -- the run's numbers: steps, ups, downs, last change and rounds, 0 where refused, and the lent buffers afterwards
 unfoldable pub runNumbers : List ℕ → List ℕ → List ℕ → List ℤ → List ℕ
 runNumbers t heard s sums =
-    let y = run (pathsOf t) heard (pairsIn s) in
-    unless (runRefusal t heard s sums) (y .steps ∷ y .ups ∷ y .downs ∷ y .lastChange ∷ y .rounds ∷ []) (replicate 5 0)
+    unless (runRefusal t heard s sums) (countsOf (run (pathsOf t) heard (pairsIn s))) (replicate 5 0)
 
 unfoldable pub heardAfterRun : List ℕ → List ℕ → List ℕ → List ℤ → List ℕ
 heardAfterRun t heard s sums = unless (runRefusal t heard s sums) (run (pathsOf t) heard (pairsIn s) .heard) heard

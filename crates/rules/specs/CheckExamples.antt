@@ -50,26 +50,6 @@ twoRings =
     ∷ ((63 ∷ 2 ∷ 0 ∷ []) ∷ (63 ∷ 0 ∷ []) ∷ [])
     ∷ []
 
--- A path of twelve hops, from vertex 63, over routers that all wait.
-abbrev pub longPath : Path
-longPath = 63 ∷ 1 ∷ 2 ∷ 3 ∷ 4 ∷ 5 ∷ 6 ∷ 7 ∷ 8 ∷ 9 ∷ 10 ∷ 11 ∷ 0 ∷ []
-
-abbrev pub twelveHops : List (List Path)
-twelveHops =
-    ((1 ∷ 2 ∷ 0 ∷ []) ∷ [])
-    ∷ ((2 ∷ 1 ∷ 0 ∷ []) ∷ [])
-    ∷ ((3 ∷ 1 ∷ 0 ∷ []) ∷ [])
-    ∷ ((4 ∷ 1 ∷ 0 ∷ []) ∷ [])
-    ∷ ((5 ∷ 1 ∷ 0 ∷ []) ∷ [])
-    ∷ ((6 ∷ 1 ∷ 0 ∷ []) ∷ [])
-    ∷ ((7 ∷ 1 ∷ 0 ∷ []) ∷ [])
-    ∷ ((8 ∷ 1 ∷ 0 ∷ []) ∷ [])
-    ∷ ((9 ∷ 1 ∷ 0 ∷ []) ∷ [])
-    ∷ ((10 ∷ 1 ∷ 0 ∷ []) ∷ [])
-    ∷ ((11 ∷ 1 ∷ 0 ∷ []) ∷ [])
-    ∷ (longPath ∷ [])
-    ∷ []
-
 unfoldable pub checkExamples : List Example
 checkExamples =
     -- 1. Empty: complete, s 0, L 0.
@@ -94,6 +74,8 @@ checkExamples =
     ∷ (check (tableBytes table7) gives checked complete (0 ∷ 3 ∷ 0 ∷ 3 ∷ 2 ∷ [])
     (origin ++ shown 1 1 1 (1 ∷ 0 ∷ []) ++ shown 2 1 2 (2 ∷ 1 ∷ 0 ∷ []) ++ shown 3 0 0 [] ++ absent 60)
     (replicate 64 255))
+    -- vertex 63 alone
+    ∷ (check (tableBytes (((63 ∷ 0 ∷ []) ∷ []) ∷ [])) gives checked complete (0 ∷ 1 ∷ 0 ∷ 1 ∷ 1 ∷ []) (origin ++ absent 62 ++ shown 1 1 1 (63 ∷ 0 ∷ [])) (replicate 64 255))
     -- ring 3, settled 6, stuck 7, s 4, L 8
     ∷ (check (tableBytes twoRings) gives checked (stuck 3) (3 ∷ 6 ∷ 7 ∷ 4 ∷ 8 ∷ [])
     (origin

@@ -7,7 +7,7 @@ use Rattle.rules.specs.Answers.{stuck, refused}
 use Rattle.rules.specs.TriedExamples.{Example, recordBytes, tableBytes, shown, origin, absent, lent, small, zeros, pair, checkCall, checkForC, stepForC, runForC, checkGave, gaveToC, _gives_}
 use Rattle.rules.specs.CheckExamples.{table2, table7}
 use Rattle.rules.specs.RefusalExamples.{one, two}
-use Rattle.rules.specs.RunExamples.{heardAt}
+use Rattle.rules.specs.RunExamples.{twoPairs, heardAt}
 
 -- ring 2, settled 5, stuck 3, s 1, L 6; 4 to 8 are only named
 abbrev pub fiveNumbers : List (List Path)
@@ -58,9 +58,9 @@ entryExamples =
     ∷ (stepForC (lent 17) zeros (pair 3 2) (lent 31) gives gaveToC 1 (zeros ∷ lent 31 ∷ []))
     ∷ (stepForC (lent 17) zeros (pair 3 2) (lent 33) gives gaveToC 1 (zeros ∷ lent 33 ∷ []))
     ∷ (stepForC (tableBytes table7) (heardAt 194 3) (pair 3 2) (lent 32) gives gaveToC 49676 (heardAt 194 3 ∷ lent 32 ∷ []))
-    -- the run for C: the five numbers and the 64 sums as words; 1 for the sums and for the numbers; 14 at pair 1 is 14 + 256
-    ∷ (runForC (tableBytes table2) zeros (1 ∷ 0 ∷ 1 ∷ 0 ∷ 1 ∷ 0 ∷ []) (lent 256) (lent 32) gives gaveToC 0
-    (heardAt 64 1 ∷ (small 0 ++ small 16 ++ replicate 248 0) ∷ (small 3 ++ small 1 ++ small 0 ++ small 1 ++ small 3 ++ replicate 12 0) ∷ []))
+    -- the run for C: the five numbers and the 64 sums as words, the sum of 2 being -16; 1 for the sums and for the numbers; 14 at pair 1 is 14 + 256
+    ∷ (runForC (tableBytes twoPairs) (heardAt 129 1) (2 ∷ 1 ∷ []) (lent 256) (lent 32) gives gaveToC 0
+    (zeros ∷ (replicate 8 0 ++ 240 ∷ 255 ∷ 255 ∷ 255 ∷ replicate 244 0) ∷ (small 1 ++ small 0 ++ small 1 ++ small 1 ++ small 0 ++ replicate 12 0) ∷ []))
     ∷ (runForC (lent 17) zeros [] (lent 255) (lent 32) gives gaveToC 1 (zeros ∷ lent 255 ∷ lent 32 ∷ []))
     ∷ (runForC [] zeros [] (lent 257) (lent 32) gives gaveToC 1 (zeros ∷ lent 257 ∷ lent 32 ∷ []))
     ∷ (runForC [] zeros [] (lent 256) (lent 33) gives gaveToC 1 (zeros ∷ lent 256 ∷ lent 33 ∷ []))

@@ -24,10 +24,8 @@ ranked (suc n) r = recordBytes r (1 ∷ suc r ∷ 0 ∷ []) ++ ranked n (suc r)
 
 unfoldable pub refusalExamples : List Example
 refusalExamples =
-    -- 2 and 3: "1,008 records pass, 16,144 bytes get 2; 17 bytes get 3"; zeros of the right length get to the first record's hops
-    (check (replicate 16128 0) gives refused 4 0)
-    ∷ (check (replicate 16129 0) gives refused 2 0)
-    ∷ (check (replicate 16144 0) gives refused 2 0)
+    -- 2 and 3: "16,144 bytes get 2; 17 bytes get 3"; 16,129 bytes get 2 before 3
+    (check (replicate 16129 0) gives refused 2 0)
     ∷ (check (replicate 17 0) gives refused 3 0)
     ∷ (check (one ++ 1 ∷ []) gives refused 3 0)
     -- 4: "Hops 12 passes, 0 and 13 get 4"; where 12 hops pass, the last vertex is looked at

@@ -58,6 +58,10 @@ pub record Report : Type 0 where
   pub rows : List ℕ
   pub ring : List ℕ
 
+-- its numbers: "ring length (0 if complete), settled, stuck, s and L"
+abbrev pub numbersOf : Report → List ℕ
+numbersOf r = r .ringLength ∷ r .settledCount ∷ r .stuckCount ∷ r .stages ∷ r .hops ∷ []
+
 -- The report of an accepted table. The verdict is complete where the ring's length is 0.
 unfoldable pub report : List ℕ → Report
 report t =

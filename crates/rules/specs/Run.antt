@@ -56,6 +56,10 @@ pub record Tally : Type 0 where
   pub since : List ℕ
   pub sums : List ℤ
 
+-- its numbers: "the number of steps, of ups, of downs, the number of the last step that changed a choice .., and the rounds"
+abbrev pub countsOf : Tally → List ℕ
+countsOf y = y .steps ∷ y .ups ∷ y .downs ∷ y .lastChange ∷ y .rounds ∷ []
+
 -- nothing yet, from a heard state
 unfoldable pub begun : List ℕ → Tally
 begun heard =

@@ -11,7 +11,7 @@ use Rattle.rules.specs.Table.{Path, pathsOf, present}
 use Rattle.rules.specs.Refusals.{Refusal}
 use Rattle.rules.specs.Report.{rankIn}
 use Rattle.rules.specs.Machine.{choice}
-use Rattle.rules.specs.Run.{Tally, pairsIn, run}
+use Rattle.rules.specs.Run.{Tally, countsOf, pairsIn, run}
 use Rattle.rules.specs.Answers.{runRefusal}
 use Rattle.rules.specs.Text.{codes, decimal, labelled, routeWords, refusedLine}
 
@@ -54,7 +54,7 @@ unfoldable pub runText : List ℕ → List ℕ → List ℕ → List ℤ → Lis
 runText t heard s sums =
     let y = run (pathsOf t) heard (pairsIn s) in
     runTextOf (runRefusal t heard s sums)
-    (y .steps ∷ y .ups ∷ y .downs ∷ y .lastChange ∷ y .rounds ∷ [])
+    (countsOf y)
     (vertexLines (present t) (ranLine t y) 63)
 
 -- What the run program prints: the run from all zeros, with sums of its own.

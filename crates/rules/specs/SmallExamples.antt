@@ -7,14 +7,14 @@ use lib.IntN.{pos, negsuc}
 use lib.Dec.{eqb, ltb}
 use Rattle.rules.specs.Table.{Path, slotsOf, nextHop}
 use Rattle.rules.specs.Greedy.{stageOf, lowestOf, ringFrom}
-use Rattle.rules.specs.Report.{rowAt, vertices, pathShown}
+use Rattle.rules.specs.Report.{rowBytes, rowAt, vertices, pathShown}
 use Rattle.rules.specs.Machine.{lastHeard}
-use Rattle.rules.specs.Run.{listeningOffsets}
-use Rattle.rules.specs.Answers.{choicesIn}
-use Rattle.rules.specs.Entries.{fourBytes, sumBytes}
-use Rattle.rules.specs.Text.{codes, decimal, placeWords}
+use Rattle.rules.specs.Run.{countsOf, listeningOffsets, run}
+use Rattle.rules.specs.Answers.{choicesIn, runRefusal}
+use Rattle.rules.specs.Entries.{codeOf, fourBytes, sumBytes}
+use Rattle.rules.specs.Text.{codes, decimal, placeWords, rowLines}
 use Rattle.rules.specs.RunText.{signed}
-use Rattle.rules.specs.TriedExamples.{Example, tableBytes, shown, alone, counts, _gives_}
+use Rattle.rules.specs.TriedExamples.{Example, tableBytes, shown, origin, absent, zeros, lentSums, pair, alone, counts, _gives_}
 use Rattle.rules.specs.CheckExamples.{table3, table7}
 
 -- lists end to end
@@ -25,6 +25,10 @@ flat (l ∷ ls) = l ++ flat ls
 -- each vertex but 63 has one path, over the vertex above it: 63 settles first, and each stage shuts out the next path
 abbrev pub oneAfterAnother : ℕ → List Path
 oneAfterAnother v = elim (eqb v 63) [ true ↦ [] | false ↦ (v ∷ suc v ∷ 0 ∷ []) ∷ [] ]
+
+-- a path of twelve hops
+abbrev pub longPath : Path
+longPath = 63 ∷ 1 ∷ 2 ∷ 3 ∷ 4 ∷ 5 ∷ 6 ∷ 7 ∷ 8 ∷ 9 ∷ 10 ∷ 11 ∷ 0 ∷ []
 
 -- from 63 on everybody listens to 63 and to 0
 abbrev pub lastOnes : ℕ → List Path
@@ -55,6 +59,14 @@ smallExamples =
     ∷ (alone (lastHeard lastOnes (replicate 256 1) 1 64 ++ lastHeard lastOnes (replicate 256 1) 1 63) gives counts (63 ∷ 63 ∷ 0 ∷ []))
     -- the listening pairs among 4,096
     ∷ (alone (listeningOffsets lastOnes) gives counts (4032 ∷ 4095 ∷ []))
+    -- with no listening pair no step closes a round; the order of a run's numbers
+    ∷ (alone (run (λ v. []) [] (pair 1 0 ∷ []) .rounds ∷ []) gives counts (0 ∷ []))
+    ∷ (alone (countsOf (record { heard = []; steps = 1; ups = 2; downs = 3; lastChange = 4; rounds = 5; since = []; sums = [] })) gives counts (1 ∷ 2 ∷ 3 ∷ 4 ∷ 5 ∷ []))
+    -- 1 for sums of another length
+    ∷ (alone (codeOf (runRefusal [] zeros [] (lentSums 63)) ∷ []) gives counts (1 ∷ []))
+    -- a row of twelve hops, and the line of vertex 63
+    ∷ (alone (rowBytes 255 16 longPath) gives counts (255 ∷ 16 ∷ 12 ∷ longPath))
+    ∷ (alone (rowLines (origin ++ absent 62 ++ shown 255 16 12 longPath) 63) gives counts (codes "63 stuck rank 16 path 63 1 2 3 4 5 6 7 8 9 10 11 0\n"))
     -- what a row shows: the path, or none; the row of a vertex
     ∷ (alone (pathShown (shown 1 2 3 (4 ∷ 5 ∷ 6 ∷ 0 ∷ [])) ++ pathShown (shown 1 0 0 []) ++ vertices (7 ∷ 255 ∷ 8 ∷ [])) gives counts (4 ∷ 5 ∷ 6 ∷ 0 ∷ 7 ∷ []))
     ∷ (alone (rowAt (rising 48 0) 1) gives counts (rising 16 16))

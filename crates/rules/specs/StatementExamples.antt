@@ -1,4 +1,5 @@
--- What is no number but a statement: stable assignments and rounds that a schedule contains, each where it holds and where it does not.
+-- What is no number but a statement: bounds on lengths, stable assignments and rounds that a schedule contains, each where it holds and where
+-- it does not.
 use Prim.{tt}
 use Prim.Native.Nat.{ℕ, zero, suc, _+_, _≤_}
 use native.Mathlib.Omega.{arith}
@@ -9,12 +10,34 @@ use mathlib.Core.List.{List, [], _∷_, _++_, map}
 use lib.ListN.{getD, length}
 use lib.Dec.{eqb, ltb}
 use borrow.Author.Tests.{eqb-true, ltb-true}
-use Rattle.lists.specs.Search.{anyIn, elem, same}
+use Rattle.lists.specs.Search.{outside, anyIn, elem, same}
 use Rattle.rules.specs.Table.{Path, nextHop, rest, first}
+use Rattle.rules.specs.Refusals.{tooLong, ragged}
+use Rattle.rules.specs.Answers.{scheduleBad}
 use Rattle.rules.specs.Stable.{Stable, extends, bestGiven}
 use Rattle.rules.specs.Machine.{Pair, offsetOf}
 use Rattle.rules.specs.Rounds.{Covers, Contains}
 use Rattle.rules.specs.TriedExamples.{pair}
+
+-- "At most 1,008 records (63 times 16), 16,128 bytes", and no table of more
+
+pub table-1008 : (t : List ℕ) → length t ≡ 16128 → (tooLong t ≡ false) × (ragged t ≡ false)
+unfolding tooLong ragged outside
+table-1008 t e = (rw e refl, rw e refl)
+
+pub table-1009 : (t : List ℕ) → length t ≡ 16144 → tooLong t ≡ true
+unfolding tooLong
+table-1009 t e = rw e refl
+
+-- "at most 16,384 pairs", and no schedule of more
+
+pub pairs-16384 : (s : List ℕ) → length s ≡ 32768 → scheduleBad s ≡ false
+unfolding scheduleBad outside
+pairs-16384 s e = rw e refl
+
+pub pairs-16385 : (s : List ℕ) → length s ≡ 32770 → scheduleBad s ≡ true
+unfolding scheduleBad outside
+pairs-16385 s e = rw e refl
 
 -- table 3's paths, of which 0, 1 and 2 are present
 abbrev pub few : ℕ → List Path

@@ -11,7 +11,7 @@ use lib.Dec.{eqb}
 use Rattle.lists.specs.Search.{outside}
 use Rattle.lists.specs.Fill.{blocks}
 use Rattle.rules.specs.Refusals.{refusal}
-use Rattle.rules.specs.Report.{rowAt, report}
+use Rattle.rules.specs.Report.{rowAt, numbersOf, report}
 use Rattle.rules.specs.Answers.{Verdict, complete, stuck, refused, verdictOf, verdict}
 
 -- a text's letters as bytes
@@ -108,6 +108,6 @@ unfoldable pub checkText : List ℕ → List ℕ
 checkText t =
     let r = report t in
     textOf (verdict (refusal t) (verdictOf (r .ringLength)))
-    (r .ringLength ∷ r .settledCount ∷ r .stuckCount ∷ r .stages ∷ r .hops ∷ [])
+    (numbersOf r)
     (r .rows)
     (r .ring)

@@ -2,7 +2,7 @@
 use mathlib.Core.List.{List, [], _∷_, _++_}
 use lib.ListN.{replicate}
 use Rattle.rules.specs.TriedExamples.{Example, recordBytes, tableBytes, checkPrints, runPrints, printedAs, _gives_}
-use Rattle.rules.specs.CheckExamples.{table5, table6, twelveHops}
+use Rattle.rules.specs.CheckExamples.{table5, table6}
 use Rattle.rules.specs.RefusalExamples.{one, two}
 use Rattle.rules.specs.RunExamples.{twoPairs, sixSteps}
 
@@ -14,8 +14,6 @@ textExamples =
     ∷ (checkPrints (tableBytes table5) gives printedAs "verdict stuck settled 1 stuck 2 stages 1 longest 2\n1 stage 1 rank 1 path 1 0\n2 stuck rank 1 path 2 3 0\n3 stuck rank 1 path 3 2 0\nring 2 3\n")
     -- Table 6: "A settled vertex without a path prints as `1 stage 2 none`."
     ∷ (checkPrints (tableBytes table6) gives printedAs "verdict complete settled 2 stuck 0 stages 2 longest 2\n1 stage 2 none\n2 stage 1 none\n")
-    -- numbers of two digits, vertex 63 and twelve hops
-    ∷ (checkPrints (tableBytes twelveHops) gives printedAs "verdict stuck settled 0 stuck 12 stages 0 longest 12\n1 stuck rank 1 path 1 2 0\n2 stuck rank 1 path 2 1 0\n3 stuck rank 1 path 3 1 0\n4 stuck rank 1 path 4 1 0\n5 stuck rank 1 path 5 1 0\n6 stuck rank 1 path 6 1 0\n7 stuck rank 1 path 7 1 0\n8 stuck rank 1 path 8 1 0\n9 stuck rank 1 path 9 1 0\n10 stuck rank 1 path 10 1 0\n11 stuck rank 1 path 11 1 0\n63 stuck rank 1 path 63 1 2 3 4 5 6 7 8 9 10 11 0\nring 1 2\n")
     -- "A refusal prints `refused 9 record 2`": owners 1, 2, 1
     ∷ (checkPrints (one ++ two ++ recordBytes 1 (1 ∷ 2 ∷ 0 ∷ [])) gives printedAs "refused 9 record 2\n")
     -- "or `refused 3` for 1 to 3": 17 bytes

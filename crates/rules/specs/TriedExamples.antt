@@ -8,9 +8,9 @@ use lib.ListN.{length, replicate}
 use lib.IntN.{ℤ, pos}
 use Rattle.rules.specs.Table.{Path, pathsOf}
 use Rattle.rules.specs.Refusals.{Refusal, refusal}
-use Rattle.rules.specs.Report.{Report, report}
+use Rattle.rules.specs.Report.{Report, numbersOf, report}
 use Rattle.rules.specs.Machine.{Pair, step, movement}
-use Rattle.rules.specs.Run.{Tally, pairsIn, run}
+use Rattle.rules.specs.Run.{Tally, countsOf, pairsIn, run}
 use Rattle.rules.specs.Answers.{Verdict, verdictOf, checkRefusal, checkVerdict, checkNumbers, rowsAfter, ringAfter, stepRefusal, stepMovement, heardAfterStep, runRefusal, runNumbers, heardAfterRun, sumsAfterRun}
 use Rattle.rules.specs.Entries.{codeOf, checkRefusalForC, rowsForC, ringForC, checkNumbersForC, stepRefusalForC, heardStepForC, stepNumbersForC, runRefusalForC, heardRunForC, sumsForC, runNumbersForC}
 use Rattle.rules.specs.Text.{codes, checkText}
@@ -100,18 +100,14 @@ pub data Outcome : Type 0 where
   counts : List ℕ → Outcome
 
 unfoldable pub checkedOf : Report → Outcome
-checkedOf r =
-    checked (verdictOf (r .ringLength))
-    (r .ringLength ∷ r .settledCount ∷ r .stuckCount ∷ r .stages ∷ r .hops ∷ [])
-    (r .rows)
-    (r .ring)
+checkedOf r = checked (verdictOf (r .ringLength)) (numbersOf r) (r .rows) (r .ring)
 
 unfoldable pub movements : (ℕ → List Path) → List ℕ → List Pair → List ℤ
 movements paths heard [] = []
 movements paths heard (p ∷ s) = movement paths heard p ∷ movements paths (step paths heard p) s
 
 unfoldable pub ranOf : List ℤ → Tally → Outcome
-ranOf moved y = ran moved (y .steps ∷ y .ups ∷ y .downs ∷ y .lastChange ∷ y .rounds ∷ []) (y .heard) (y .sums)
+ranOf moved y = ran moved (countsOf y) (y .heard) (y .sums)
 
 unfoldable pub unlessRefused : Option Refusal → Outcome → Outcome
 unlessRefused none o = o
