@@ -51,11 +51,11 @@ runExamples =
     -- 1 comes before the table's numbers, and these before 12
     ∷ (runs (0 ∷ []) [] [] gives refused 1 0)
     ∷ (runs (0 ∷ []) (heardAt 130 1) [] gives refused 3 0)
-    -- 12: the lower of two bad bytes; the last offset; more than the speaker has paths, and as many; 12 comes before 13, and 13 before 14
-    ∷ (runs [] (replicate 130 0 ++ 1 ∷ replicate 169 0 ++ 1 ∷ replicate 3795 0) [] gives refused 12 130)
+    -- 12: the lower of two bad bytes, at a pair that does not listen to 0; the last offset; more than the speaker has paths, and as many; 12 comes before 13, and 13 before 14
+    ∷ (runs (tableBytes table2) (replicate 128 0 ++ 1 ∷ replicate 171 0 ++ 1 ∷ replicate 3795 0) [] gives refused 12 128)
     ∷ (runs [] (heardAt 4095 1) [] gives refused 12 4095)
     ∷ (runs (tableBytes table7) (heardAt 194 3) (1 ∷ []) gives refused 12 194)
-    ∷ (runs (tableBytes table7) (heardAt 194 2) (0 ∷ 0 ∷ 1 ∷ []) gives refused 13 0)
+    ∷ (runs (tableBytes table2) (heardAt 64 1) (0 ∷ 0 ∷ 1 ∷ []) gives refused 13 0)
     ∷ (runs (tableBytes table2) (heardAt 64 2) [] gives refused 12 64)
     -- 14: the first of two pairs that do not listen, and nothing changes; numbers above 63, whose offset is that of a listening pair
     ∷ (runCall (tableBytes table2) zeros (1 ∷ 0 ∷ 1 ∷ 1 ∷ 1 ∷ 0 ∷ 2 ∷ 0 ∷ 1 ∷ 0 ∷ []) (lentSums 64) gives runGave (at 14 1) (replicate 5 0) zeros (lentSums 64))
