@@ -194,6 +194,35 @@ class Judged(unittest.TestCase):
                 mutate.judge(status, "rt: crates.txt: line 1: no\n")
 
 
+class Stages(Folder):
+    """Which example files are checked after a change."""
+
+    def setUp(self):
+        super().setUp()
+        uses = {"Table": "", "Greedy": "Table", "Text": "", "Examples": "Greedy", "TextExamples": "Text Examples"}
+        for stem, used in uses.items():
+            lines = [f"use Rattle.rules.specs.{one}.{{x}}\n" for one in used.split()]
+            self.write(f"crates/rules/specs/{stem}.antt", "".join(lines))
+        self.write("crates/rules/specs/Lib.antt", "".join(f"pub mod {stem}\n" for stem in uses))
+        self.examples = mutate.Examples(self.root)
+
+    def test_those_that_rest_on_the_changed_file(self):
+        self.assertEqual([*self.examples.stages("Table.antt")], [{"Examples"}, {"Examples", "TextExamples"}])
+        self.assertEqual([*self.examples.stages("Text.antt")], [{"Examples", "TextExamples"}])
+        self.assertEqual([*self.examples.stages("Other.antt")], [set()])
+
+    def test_the_others_are_not_there(self):
+        specs = self.root / "crates" / "rules" / "specs"
+        self.examples.show({"Examples"})
+        self.assertFalse((specs / "TextExamples.antt").exists())
+        lines = (specs / "Lib.antt").read_text().split("\n")
+        self.assertIn("pub mod Examples", lines)
+        self.assertNotIn("pub mod TextExamples", lines)
+        self.examples.show({"Examples", "TextExamples"})
+        self.assertTrue((specs / "TextExamples.antt").exists())
+        self.assertEqual((specs / "Lib.antt").read_text(), self.examples.lib)
+
+
 class Known(unittest.TestCase):
     """The file of changes that are known to be the same."""
 
