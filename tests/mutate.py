@@ -95,9 +95,11 @@ def run(folder, seconds):
         try:
             status = process.wait(CLOCK_SECONDS)
         except subprocess.TimeoutExpired:
-            os.killpg(process.pid, signal.SIGKILL)
-            process.wait()
             status = None
+        finally:
+            if process.poll() is None:
+                os.killpg(process.pid, signal.SIGKILL)
+                process.wait()
         out.seek(0)
         return status, out.read().decode("utf-8", errors="replace")
 
@@ -387,6 +389,8 @@ def work(options, root=ROOT):
 
 
 def main():
+    # So that the scratch folder goes, whoever ends this.
+    signal.signal(signal.SIGTERM, lambda *_: sys.exit(143))
     try:
         return 0 if work(read_options(sys.argv[1:])) else 1
     except Broken as problem:

@@ -3,7 +3,10 @@
 import os
 import re
 import shutil
+import subprocess
+import sys
 import tempfile
+import time
 import unittest
 from pathlib import Path
 from unittest import mock
@@ -366,6 +369,19 @@ class Small(Folder):
             self.assertEqual(mutate.run(self.root, 60), (None, ""))
         status = Path("/proc", (self.root / "child").read_text().strip(), "status")
         self.assertTrue(not status.exists() or "zombie" in status.read_text())
+
+    def test_the_scratch_folder_goes_when_the_tool_is_ended(self):
+        self.write("rt", '#!/bin/sh\n: >"$BEGUN"; sleep 600\n')
+        (self.root / "rt").chmod(0o755)
+        (self.root / "tmp").mkdir()
+        begun = self.root / "begun"
+        own = {"PATH": f"{self.root}:{os.environ['PATH']}", "TMPDIR": str(self.root / "tmp"), "BEGUN": str(begun)}
+        tool = subprocess.Popen([sys.executable, mutate.__file__, "--jobs", "1"], env=os.environ | own)
+        while not begun.exists():
+            time.sleep(0.05)
+        tool.terminate()
+        self.assertEqual(tool.wait(60), 143)
+        self.assertEqual([*(self.root / "tmp").iterdir()], [])
 
     def test_a_check_that_needs_too_much_of_the_processor(self):
         self.write("rt", "#!/bin/sh\nwhile :; do :; done\n")
