@@ -40,6 +40,7 @@ LISTS = ("Search.antt", "Fill.antt", "Fold.antt")
 TIMES = 5
 CPU_SECONDS = 15
 CLOCK_SECONDS = 300
+USED = re.compile(r"^use Rattle·\S+\.specs\.(\w+)", re.MULTILINE)
 ERROR = re.compile(r"^(\S+\.antt):\d+:\d+: error: .*$", re.MULTILINE)
 
 NOTICED, SURVIVED, ILL_FORMED, SLOW, KNOWN = "noticed", "survived", "ill-formed", "slow", "known the same"
@@ -94,9 +95,11 @@ def run(folder, seconds):
         try:
             status = process.wait(CLOCK_SECONDS)
         except subprocess.TimeoutExpired:
-            os.killpg(process.pid, signal.SIGKILL)
-            process.wait()
             status = None
+        finally:
+            if process.poll() is None:
+                os.killpg(process.pid, signal.SIGKILL)
+                process.wait()
         out.seek(0)
         return status, out.read().decode("utf-8", errors="replace")
 
@@ -121,18 +124,62 @@ def judge(status, output):
     raise Broken(f"a check ended with status {status} and without the place of an error:\n{output}")
 
 
+class Examples:
+    """The example files of a scratch repository, and which of them a change of a file can make fail."""
+
+    def __init__(self, folder):
+        self.specs = folder / "crates" / "rules" / "specs"
+        texts = {path.stem: path.read_text(encoding="utf-8") for path in folder.glob("crates/*/specs/*.antt")}
+        self.uses = {stem: {*USED.findall(text)} for stem, text in texts.items()}
+        self.lib = (self.specs / "Lib.antt").read_text(encoding="utf-8")
+        self.texts = {stem: text for stem, text in texts.items() if is_example(Path(f"{stem}.antt"))}
+
+    def reach(self, stem):
+        """The files that a file rests on, with itself."""
+        found, open_ = set(), [stem]
+        while open_:
+            one = open_.pop()
+            if one not in found:
+                found.add(one)
+                open_ += self.uses.get(one, ())
+        return found
+
+    def stages(self, file):
+        """The example files to check after a change, a few at first, since most changes are noticed early and a whole
+        check is slow; at last all that rest on the changed file."""
+        reach = {stem: self.reach(stem) for stem in self.texts}
+        able = sorted((len(reach[stem]), stem) for stem in self.texts if Path(file).stem in reach[stem])
+        size = 1
+        while True:
+            yield {one for _, stem in able[:size] for one in reach[stem] if one in self.texts}
+            if size >= len(able):
+                return
+            size *= 2
+
+    def show(self, shown):
+        """Leaves the given example files in the repository, and no other."""
+        for stem, text in self.texts.items():
+            if stem in shown:
+                (self.specs / f"{stem}.antt").write_text(text, encoding="utf-8")
+            else:
+                (self.specs / f"{stem}.antt").unlink(missing_ok=True)
+        hidden = "|".join(stem for stem in self.texts if stem not in shown)
+        lib = re.sub(rf"^(?:pub )?mod (?:{hidden})$", "", self.lib, flags=re.MULTILINE) if hidden else self.lib
+        (self.specs / "Lib.antt").write_text(lib, encoding="utf-8")
+
+
 class Scratch:
     """A scratch repository; every check begins from what the unchanged definitions left."""
 
     def __init__(self, folder, kept, seconds=CLOCK_SECONDS):
         self.folder, self.kept, self.seconds = folder, kept, seconds
+        self.examples = Examples(folder)
 
     def path(self, file):
         return self.folder / "crates" / ("lists" if file in LISTS else "rules") / "specs" / file
 
-    def prepare(self, root):
+    def prepare(self):
         """Proves the unchanged definitions, and keeps what that leaves; the time it needs is the measure for others."""
-        lay_out(root, self.folder)
         before = processor_seconds()
         status, output = run(self.folder, self.seconds)
         if status != 0:
@@ -150,7 +197,11 @@ class Scratch:
         path.write_text(change.text, encoding="utf-8")
         try:
             self.again()
-            status, error = judge(*run(self.folder, self.seconds))
+            for shown in self.examples.stages(change.file):
+                self.examples.show(shown)
+                status, error = judge(*run(self.folder, self.seconds))
+                if status != SURVIVED:
+                    break
         finally:
             path.write_bytes(unchanged)
         return Result(change, status, error.replace(f"{self.folder}/", ""), time.monotonic() - start)
@@ -160,9 +211,9 @@ def check_all(root, chosen, jobs, tell):
     """The results in the order of the changes; each worker has a scratch repository of its own."""
     with tempfile.TemporaryDirectory(prefix="mutants") as holder:
         kept = Path(holder) / "kept"
+        lay_out(root, Path(holder) / "0")
         first = Scratch(Path(holder) / "0", kept)
-        first.folder.mkdir()
-        first.prepare(root)
+        first.prepare()
         free = Queue()
         free.put(first)
         for k in range(1, jobs):
@@ -338,6 +389,8 @@ def work(options, root=ROOT):
 
 
 def main():
+    # So that the scratch folder goes, whoever ends this.
+    signal.signal(signal.SIGTERM, lambda *_: sys.exit(143))
     try:
         return 0 if work(read_options(sys.argv[1:])) else 1
     except Broken as problem:

@@ -3,7 +3,10 @@
 import os
 import re
 import shutil
+import subprocess
+import sys
 import tempfile
+import time
 import unittest
 from pathlib import Path
 from unittest import mock
@@ -194,6 +197,35 @@ class Judged(unittest.TestCase):
                 mutate.judge(status, "rt: crates.txt: line 1: no\n")
 
 
+class Stages(Folder):
+    """Which example files are checked after a change."""
+
+    def setUp(self):
+        super().setUp()
+        uses = {"Table": "", "Greedy": "Table", "Text": "", "Examples": "Greedy", "TextExamples": "Text Examples"}
+        for stem, used in uses.items():
+            lines = [f"use Rattle.rules.specs.{one}.{{x}}\n" for one in used.split()]
+            self.write(f"crates/rules/specs/{stem}.antt", "".join(lines))
+        self.write("crates/rules/specs/Lib.antt", "".join(f"pub mod {stem}\n" for stem in uses))
+        self.examples = mutate.Examples(self.root)
+
+    def test_those_that_rest_on_the_changed_file(self):
+        self.assertEqual([*self.examples.stages("Table.antt")], [{"Examples"}, {"Examples", "TextExamples"}])
+        self.assertEqual([*self.examples.stages("Text.antt")], [{"Examples", "TextExamples"}])
+        self.assertEqual([*self.examples.stages("Other.antt")], [set()])
+
+    def test_the_others_are_not_there(self):
+        specs = self.root / "crates" / "rules" / "specs"
+        self.examples.show({"Examples"})
+        self.assertFalse((specs / "TextExamples.antt").exists())
+        lines = (specs / "Lib.antt").read_text().split("\n")
+        self.assertIn("pub mod Examples", lines)
+        self.assertNotIn("pub mod TextExamples", lines)
+        self.examples.show({"Examples", "TextExamples"})
+        self.assertTrue((specs / "TextExamples.antt").exists())
+        self.assertEqual((specs / "Lib.antt").read_text(), self.examples.lib)
+
+
 class Known(unittest.TestCase):
     """The file of changes that are known to be the same."""
 
@@ -337,6 +369,19 @@ class Small(Folder):
             self.assertEqual(mutate.run(self.root, 60), (None, ""))
         status = Path("/proc", (self.root / "child").read_text().strip(), "status")
         self.assertTrue(not status.exists() or "zombie" in status.read_text())
+
+    def test_the_scratch_folder_goes_when_the_tool_is_ended(self):
+        self.write("rt", '#!/bin/sh\n: >"$BEGUN"; sleep 600\n')
+        (self.root / "rt").chmod(0o755)
+        (self.root / "tmp").mkdir()
+        begun = self.root / "begun"
+        own = {"PATH": f"{self.root}:{os.environ['PATH']}", "TMPDIR": str(self.root / "tmp"), "BEGUN": str(begun)}
+        tool = subprocess.Popen([sys.executable, mutate.__file__, "--jobs", "1"], env=os.environ | own)
+        while not begun.exists():
+            time.sleep(0.05)
+        tool.terminate()
+        self.assertEqual(tool.wait(60), 143)
+        self.assertEqual([*(self.root / "tmp").iterdir()], [])
 
     def test_a_check_that_needs_too_much_of_the_processor(self):
         self.write("rt", "#!/bin/sh\nwhile :; do :; done\n")
