@@ -1,9 +1,15 @@
 -- The rules page, "Tables tried by hand", tables 1 to 7, and checks in which all numbers differ, with every byte of the rows.
+use mathlib.Core.Path.{refl}
 use mathlib.Core.List.{List, [], _∷_, _++_}
 use lib.ListN.{replicate}
-use Rattle.rules.specs.Table.{Path}
-use Rattle.rules.specs.Answers.{complete, stuck}
-use Rattle.rules.specs.TriedExamples.{Example, tableBytes, shown, origin, absent, check, checked, _gives_}
+use Rattle.lists.specs.Search.{outside, firstFrom, anyBelow, countBelow, thoseBelow, anyIn, elem, twice, same, maxBelow}
+use Rattle.lists.specs.Fill.{tabulate, blocks, padded}
+use Rattle.rules.specs.Table.{Path, recordAt, records, rankOf, hopsOf, pathOf, ownerOf, owned, pathsBelow, pathsOf, present, longest, nextHop, first}
+use Rattle.rules.specs.Greedy.{isSettled, compatible, atStart, judged, stuckIn, best, stage, settledList, settled, enters, isQuiet, stagesFrom, stagesUntil, stageCount, stageOf, follows, fromVertex, beforeVertex, closedPart, lowestOf, turned, ringFrom}
+use Rattle.rules.specs.Report.{placeIn, rankIn, rowBytes, row, report}
+use Rattle.rules.specs.Refusals.{refusedIf, _orElse_, hopsBad, vertexBad, unusedOf, fillerBad, twiceBad, lastBad, ownerBad, rankDue, rankBad, pathBad, inRecord, rule, recordRules, firstBroken, fault, faulty, firstBad, tooLong, ragged, badRecord, refusal}
+use Rattle.rules.specs.Answers.{complete, stuck, verdictOf}
+use Rattle.rules.specs.TriedExamples.{Example, tableBytes, shown, origin, absent, check, checked, _gives_, rawRecord, recordBytes, blockBytes, checkedOf, unlessRefused, outcome, Works}
 
 -- (1 0) is written 1 ∷ 0 ∷ [].
 abbrev pub table2 : List (List Path)
@@ -95,3 +101,13 @@ checkExamples =
     ++ shown 255 1 2 (63 ∷ 2 ∷ 0 ∷ []))
     (4 ∷ 5 ∷ 10 ∷ replicate 61 255))
     ∷ []
+
+pub worked-check : Works checkExamples
+unfolding outside firstFrom anyBelow countBelow thoseBelow anyIn elem twice same maxBelow tabulate blocks padded
+    recordAt records rankOf hopsOf pathOf ownerOf owned pathsBelow pathsOf present longest nextHop first isSettled
+    compatible atStart judged stuckIn best stage settledList settled enters isQuiet stagesFrom stagesUntil stageCount
+    stageOf follows fromVertex beforeVertex closedPart lowestOf turned ringFrom placeIn rankIn rowBytes row report
+    refusedIf _orElse_ hopsBad vertexBad unusedOf fillerBad twiceBad lastBad ownerBad rankDue rankBad pathBad inRecord
+    rule recordRules firstBroken fault faulty firstBad tooLong ragged badRecord refusal verdictOf rawRecord
+    recordBytes blockBytes tableBytes shown absent checkedOf unlessRefused outcome checkExamples
+worked-check = record { works = refl }

@@ -1,10 +1,21 @@
 -- The rules page, "What is built": calls of the check and of each entry for C, accepted and refused, with every byte of every buffer.
 use Prim.Native.Nat.{ℕ}
+use mathlib.Core.Path.{refl}
 use mathlib.Core.List.{List, [], _∷_, _++_}
 use lib.ListN.{replicate}
-use Rattle.rules.specs.Table.{Path}
-use Rattle.rules.specs.Answers.{stuck, refused}
-use Rattle.rules.specs.TriedExamples.{Example, recordBytes, tableBytes, shown, origin, absent, lent, small, zeros, pair, checkCall, checkForC, stepForC, runForC, checkGave, gaveToC, _gives_}
+use Rattle.lists.specs.Search.{outside, firstFrom, anyBelow, countBelow, thoseBelow, anyIn, firstIn, elem, twice, same, maxBelow}
+use Rattle.lists.specs.Fill.{tabulate, blocks, padded}
+use Rattle.lists.specs.Fold.{foldLeft}
+use Rattle.rules.specs.Table.{Path, recordAt, records, rankOf, hopsOf, pathOf, ownerOf, owned, pathsBelow, pathsOf, present, longest, nextHop, rest, first, listens, listensAt}
+use Rattle.rules.specs.Greedy.{isSettled, compatible, atStart, judged, stuckIn, best, stage, settledList, settled, enters, isQuiet, stagesFrom, stagesUntil, stageCount, stageOf, follows, fromVertex, beforeVertex, closedPart, lowestOf, turned, ringFrom}
+use Rattle.rules.specs.Stable.{extends, bestGiven}
+use Rattle.rules.specs.Report.{placeIn, rankIn, rowBytes, row, report}
+use Rattle.rules.specs.Machine.{offsetOf, standingOf, badAt, speaks, byteFor, pathFor, badByte, heardFault, lastHeard, choice, step, standing, movement}
+use Rattle.rules.specs.Run.{pairsIn, isUp, isDown, more, offsetsOf, listeningOffsets, closes, begun, activated, run}
+use Rattle.rules.specs.Refusals.{refusedIf, refusedAt, _orElse_, hopsBad, vertexBad, unusedOf, fillerBad, twiceBad, lastBad, ownerBad, rankDue, rankBad, pathBad, inRecord, rule, recordRules, firstBroken, fault, faulty, firstBad, tooLong, ragged, badRecord, refusal}
+use Rattle.rules.specs.Answers.{stuck, refused, otherLength, scheduleBad, firstBadPair, checkRefusal, stepRefusal, runRefusal, unless, verdictOf, verdict, checkVerdict, checkNumbers, rowsAfter, ringAfter, runNumbers}
+use Rattle.rules.specs.Entries.{codeOf, fourBytes, wordBytes, numberBytes, twosComplement, sumBytes, checkRefusalForC, stepRefusalForC, runRefusalForC, rowsForC, ringForC, checkNumbersForC, heardStepForC, stepNumbersForC, heardRunForC, sumsForC, runNumbersForC}
+use Rattle.rules.specs.TriedExamples.{Example, recordBytes, tableBytes, shown, origin, absent, lent, small, zeros, pair, checkCall, checkForC, stepForC, runForC, checkGave, gaveToC, _gives_, rawRecord, blockBytes, outcome, Works}
 use Rattle.rules.specs.CheckExamples.{table2, table7}
 use Rattle.rules.specs.RefusalExamples.{one, two}
 use Rattle.rules.specs.RunExamples.{twoPairs, heardAt}
@@ -66,3 +77,19 @@ entryExamples =
     ∷ (runForC [] zeros [] (lent 256) (lent 33) gives gaveToC 1 (zeros ∷ lent 256 ∷ lent 33 ∷ []))
     ∷ (runForC (tableBytes table2) zeros (1 ∷ 0 ∷ 2 ∷ 0 ∷ []) (lent 256) (lent 32) gives gaveToC 270 (zeros ∷ lent 256 ∷ lent 32 ∷ []))
     ∷ []
+
+pub worked-entry : Works entryExamples
+unfolding outside firstFrom anyBelow countBelow thoseBelow anyIn firstIn elem twice same maxBelow tabulate blocks
+    padded foldLeft recordAt records rankOf hopsOf pathOf ownerOf owned pathsBelow pathsOf present longest nextHop
+    rest first listens listensAt isSettled compatible atStart judged stuckIn best stage settledList settled enters
+    isQuiet stagesFrom stagesUntil stageCount stageOf follows fromVertex beforeVertex closedPart lowestOf turned
+    ringFrom extends bestGiven placeIn rankIn rowBytes row report offsetOf standingOf badAt speaks byteFor pathFor
+    badByte heardFault lastHeard choice step standing movement pairsIn isUp isDown more offsetsOf listeningOffsets
+    closes begun activated run refusedIf refusedAt _orElse_ hopsBad vertexBad unusedOf fillerBad twiceBad lastBad
+    ownerBad rankDue rankBad pathBad inRecord rule recordRules firstBroken fault faulty firstBad tooLong ragged
+    badRecord refusal otherLength scheduleBad firstBadPair checkRefusal stepRefusal runRefusal unless verdictOf
+    verdict checkVerdict checkNumbers rowsAfter ringAfter runNumbers codeOf fourBytes wordBytes numberBytes
+    twosComplement sumBytes checkRefusalForC stepRefusalForC runRefusalForC rowsForC ringForC checkNumbersForC
+    heardStepForC stepNumbersForC heardRunForC sumsForC runNumbersForC rawRecord recordBytes blockBytes tableBytes
+    shown absent outcome entryExamples
+worked-entry = record { works = refl }

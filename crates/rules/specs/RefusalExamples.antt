@@ -1,10 +1,17 @@
 -- The rules page, "Refusal numbers, in order of checking", for tables: each number, records with two faults, and each bound from both sides.
 -- Records of a wrong form are written byte by byte.
 use Prim.Native.Nat.{ℕ, zero, suc}
+use mathlib.Core.Path.{refl}
 use mathlib.Core.List.{List, [], _∷_, _++_}
 use lib.ListN.{replicate}
-use Rattle.rules.specs.Table.{Path}
-use Rattle.rules.specs.TriedExamples.{Example, recordBytes, rawRecord, tableBytes, check, refused, _gives_}
+use Rattle.lists.specs.Search.{outside, firstFrom, anyBelow, countBelow, thoseBelow, anyIn, elem, twice, same, maxBelow}
+use Rattle.lists.specs.Fill.{tabulate, blocks, padded}
+use Rattle.rules.specs.Table.{Path, recordAt, records, rankOf, hopsOf, pathOf, ownerOf, owned, pathsBelow, pathsOf, present, longest, nextHop, first}
+use Rattle.rules.specs.Greedy.{isSettled, compatible, atStart, judged, stuckIn, best, stage, settledList, settled, enters, isQuiet, stagesFrom, stagesUntil, stageCount, stageOf, follows, fromVertex, beforeVertex, closedPart, lowestOf, turned, ringFrom}
+use Rattle.rules.specs.Report.{placeIn, rankIn, rowBytes, row, report}
+use Rattle.rules.specs.Refusals.{refusedIf, _orElse_, hopsBad, vertexBad, unusedOf, fillerBad, twiceBad, lastBad, ownerBad, rankDue, rankBad, pathBad, inRecord, rule, recordRules, firstBroken, fault, faulty, firstBad, tooLong, ragged, badRecord, refusal}
+use Rattle.rules.specs.Answers.{verdictOf}
+use Rattle.rules.specs.TriedExamples.{Example, recordBytes, rawRecord, tableBytes, check, refused, _gives_, checkedOf, unlessRefused, outcome, Works}
 
 -- a record that keeps all rules, and the records of 1 and of 2 that go straight to 0
 abbrev pub one : List ℕ
@@ -73,3 +80,13 @@ refusalExamples =
     -- "The first bad record decides.": 11 in record 1, 4 in record 2
     ∷ (check (one ++ recordBytes 2 (1 ∷ 0 ∷ []) ++ rawRecord 1 0 (2 ∷ [])) gives refused 11 1)
     ∷ []
+
+pub worked-refusal : Works refusalExamples
+unfolding outside firstFrom anyBelow countBelow thoseBelow anyIn elem twice same maxBelow tabulate blocks padded
+    recordAt records rankOf hopsOf pathOf ownerOf owned pathsBelow pathsOf present longest nextHop first isSettled
+    compatible atStart judged stuckIn best stage settledList settled enters isQuiet stagesFrom stagesUntil stageCount
+    stageOf follows fromVertex beforeVertex closedPart lowestOf turned ringFrom placeIn rankIn rowBytes row report
+    refusedIf _orElse_ hopsBad vertexBad unusedOf fillerBad twiceBad lastBad ownerBad rankDue rankBad pathBad inRecord
+    rule recordRules firstBroken fault faulty firstBad tooLong ragged badRecord refusal verdictOf rawRecord
+    recordBytes checkedOf unlessRefused outcome ranked refusalExamples
+worked-refusal = record { works = refl }

@@ -1,12 +1,22 @@
 -- The rules page, "Tables tried by hand", cases 8 and 9, and runs and steps from leftovers, with the whole heard state and all sums; and the
 -- refusals that only the step and the run have.
 use Prim.Native.Nat.{ℕ, _-_}
+use mathlib.Core.Path.{refl}
 use mathlib.Core.List.{List, [], _∷_, _++_}
 use mathlib.Core.Option.{none}
 use lib.ListN.{replicate}
 use lib.IntN.{ℤ, pos, negsuc}
-use Rattle.rules.specs.Table.{Path}
-use Rattle.rules.specs.TriedExamples.{Example, tableBytes, zeros, pair, at, lentSums, runs, stepCall, runCall, refused, ran, stepGave, runGave, _gives_}
+use Rattle.lists.specs.Search.{outside, firstFrom, anyBelow, thoseBelow, anyIn, firstIn, elem, twice, same}
+use Rattle.lists.specs.Fill.{blocks}
+use Rattle.lists.specs.Fold.{foldLeft}
+use Rattle.rules.specs.Table.{Path, recordAt, records, rankOf, hopsOf, pathOf, ownerOf, owned, pathsBelow, pathsOf, nextHop, rest, first, listens, listensAt}
+use Rattle.rules.specs.Stable.{extends, bestGiven}
+use Rattle.rules.specs.Report.{placeIn, rankIn}
+use Rattle.rules.specs.Machine.{offsetOf, standingOf, badAt, speaks, byteFor, pathFor, badByte, heardFault, lastHeard, choice, step, standing, movement}
+use Rattle.rules.specs.Run.{pairsIn, isUp, isDown, more, offsetsOf, listeningOffsets, closes, begun, activated, run}
+use Rattle.rules.specs.Refusals.{refusedIf, refusedAt, _orElse_, hopsBad, vertexBad, unusedOf, fillerBad, twiceBad, lastBad, ownerBad, rankDue, rankBad, pathBad, inRecord, rule, recordRules, firstBroken, fault, faulty, firstBad, tooLong, ragged, badRecord, refusal}
+use Rattle.rules.specs.Answers.{otherLength, scheduleBad, firstBadPair, stepRefusal, runRefusal, unless, stepMovement, heardAfterStep, runNumbers, heardAfterRun, sumsAfterRun}
+use Rattle.rules.specs.TriedExamples.{Example, tableBytes, zeros, pair, at, lentSums, runs, stepCall, runCall, refused, ran, stepGave, runGave, _gives_, rawRecord, recordBytes, blockBytes, movements, ranOf, unlessRefused, outcome, Works}
 use Rattle.rules.specs.CheckExamples.{table2, table3, table7}
 
 -- Three pairs, (1,0), (2,0) and (2,1), where 2 has heard (1 0) and nobody anything else. In the schedule 2 loses its path and finds it again,
@@ -67,3 +77,14 @@ runExamples =
     ∷ (stepCall (tableBytes table7) (heardAt 194 3) (pair 3 1) gives stepGave (at 12 194) (pos 0) (heardAt 194 3))
     ∷ (stepCall (tableBytes table7) (heardAt 194 2) (pair 3 1) gives stepGave (at 14 0) (pos 0) (heardAt 194 2))
     ∷ []
+
+pub worked-run : Works runExamples
+unfolding outside firstFrom anyBelow thoseBelow anyIn firstIn elem twice same blocks foldLeft recordAt records rankOf
+    hopsOf pathOf ownerOf owned pathsBelow pathsOf nextHop rest first listens listensAt extends bestGiven placeIn
+    rankIn offsetOf standingOf badAt speaks byteFor pathFor badByte heardFault lastHeard choice step standing movement
+    pairsIn isUp isDown more offsetsOf listeningOffsets closes begun activated run refusedIf refusedAt _orElse_
+    hopsBad vertexBad unusedOf fillerBad twiceBad lastBad ownerBad rankDue rankBad pathBad inRecord rule recordRules
+    firstBroken fault faulty firstBad tooLong ragged badRecord refusal otherLength scheduleBad firstBadPair
+    stepRefusal runRefusal unless stepMovement heardAfterStep runNumbers heardAfterRun sumsAfterRun rawRecord
+    recordBytes blockBytes tableBytes movements ranOf unlessRefused outcome runExamples
+worked-run = record { works = refl }

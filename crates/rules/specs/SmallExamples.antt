@@ -1,20 +1,26 @@
 -- Single definitions by their numbers: what no table above brings, bounds that only larger ones meet, and a table of 63 stages.
 use Prim.Native.Nat.{ℕ, zero, suc}
+use mathlib.Core.Path.{refl}
 use mathlib.Core.Bool.{Bool, true, false}
 use mathlib.Core.List.{List, [], _∷_, _++_}
 use lib.ListN.{replicate}
 use lib.IntN.{pos, negsuc}
 use lib.Dec.{eqb, ltb}
-use Rattle.rules.specs.Table.{Path, slotsOf, nextHop}
-use Rattle.rules.specs.Greedy.{stageOf, lowestOf, ringFrom}
-use Rattle.rules.specs.Report.{rowBytes, rowAt, vertices, pathShown}
-use Rattle.rules.specs.Machine.{lastHeard}
-use Rattle.rules.specs.Run.{countsOf, listeningOffsets, run}
-use Rattle.rules.specs.Answers.{choicesIn, runRefusal}
-use Rattle.rules.specs.Entries.{codeOf, fourBytes, sumBytes}
-use Rattle.rules.specs.Text.{codes, decimal, placeWords, rowLines}
+use Rattle.lists.specs.Search.{outside, firstFrom, anyBelow, thoseBelow, anyIn, firstIn, elem, twice, same}
+use Rattle.lists.specs.Fill.{tabulate, blocks, padded}
+use Rattle.lists.specs.Fold.{foldLeft}
+use Rattle.rules.specs.Table.{Path, slotsOf, nextHop, recordAt, records, rankOf, hopsOf, pathOf, ownerOf, owned, pathsBelow, pathsOf, present, rest, first, listens, listensAt}
+use Rattle.rules.specs.Greedy.{stageOf, lowestOf, ringFrom, isSettled, compatible, atStart, judged, best, stage, stagesFrom, stagesUntil, fromVertex, beforeVertex, closedPart, turned}
+use Rattle.rules.specs.Stable.{extends, bestGiven}
+use Rattle.rules.specs.Report.{rowBytes, rowAt, vertices, pathShown, placeIn, rankIn, row}
+use Rattle.rules.specs.Machine.{lastHeard, offsetOf, standingOf, badAt, speaks, byteFor, pathFor, badByte, heardFault, choice, choiceBytes, step, standing, movement}
+use Rattle.rules.specs.Run.{countsOf, listeningOffsets, run, pairsIn, isUp, isDown, more, offsetsOf, closes, begun, activated}
+use Rattle.rules.specs.Refusals.{refusedIf, refusedAt, _orElse_, hopsBad, vertexBad, unusedOf, fillerBad, twiceBad, lastBad, ownerBad, rankDue, rankBad, pathBad, inRecord, rule, recordRules, firstBroken, fault, faulty, firstBad, tooLong, ragged, badRecord, refusal}
+use Rattle.rules.specs.Answers.{choicesIn, runRefusal, otherLength, scheduleBad, firstBadPair, unless}
+use Rattle.rules.specs.Text.{codes, decimal, placeWords, rowLines, digitsIn, labelled, spaced, routeWords, stageWords, rowPath, rowLine}
 use Rattle.rules.specs.RunText.{signed}
-use Rattle.rules.specs.TriedExamples.{Example, tableBytes, shown, origin, absent, zeros, lentSums, pair, alone, counts, _gives_}
+use Rattle.rules.specs.Entries.{codeOf, fourBytes, sumBytes, wordBytes, twosComplement}
+use Rattle.rules.specs.TriedExamples.{Example, tableBytes, shown, origin, absent, zeros, lentSums, pair, alone, counts, _gives_, rawRecord, recordBytes, blockBytes, outcome, Works}
 use Rattle.rules.specs.CheckExamples.{table3, table7}
 
 -- lists end to end
@@ -80,3 +86,17 @@ smallExamples =
     -- the word before a place
     ∷ (alone (placeWords 3 1 ++ placeWords 4 2 ++ placeWords 11 3 ++ placeWords 12 4 ++ placeWords 13 5 ++ placeWords 14 6 ++ placeWords 15 7) gives counts (codes " record 2 record 3 offset 4 pair 6"))
     ∷ []
+
+pub worked-small : Works smallExamples
+unfolding outside firstFrom anyBelow thoseBelow anyIn firstIn elem twice same tabulate blocks padded foldLeft recordAt
+    records rankOf hopsOf pathOf ownerOf owned pathsBelow pathsOf slotsOf present nextHop rest first listens listensAt
+    isSettled compatible atStart judged best stage stagesFrom stagesUntil stageOf fromVertex beforeVertex closedPart
+    lowestOf turned ringFrom extends bestGiven placeIn rankIn rowBytes row rowAt vertices pathShown offsetOf
+    standingOf badAt speaks byteFor pathFor badByte heardFault lastHeard choice choiceBytes step standing movement
+    pairsIn isUp isDown more offsetsOf listeningOffsets closes begun activated run refusedIf refusedAt _orElse_
+    hopsBad vertexBad unusedOf fillerBad twiceBad lastBad ownerBad rankDue rankBad pathBad inRecord rule recordRules
+    firstBroken fault faulty firstBad tooLong ragged badRecord refusal otherLength scheduleBad firstBadPair runRefusal
+    unless choicesIn codes digitsIn decimal labelled spaced routeWords placeWords stageWords rowPath rowLine rowLines
+    signed codeOf fourBytes wordBytes twosComplement sumBytes rawRecord recordBytes blockBytes tableBytes shown absent
+    outcome flat rising smallExamples
+worked-small = record { works = refl }

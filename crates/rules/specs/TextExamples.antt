@@ -1,7 +1,21 @@
 -- The rules page, "Tables tried by hand": the exact text of checks and runs, every printed form and every word of it.
+use mathlib.Core.Path.{refl}
 use mathlib.Core.List.{List, [], _∷_, _++_}
 use lib.ListN.{replicate}
-use Rattle.rules.specs.TriedExamples.{Example, recordBytes, tableBytes, checkPrints, runPrints, printedAs, _gives_}
+use Rattle.lists.specs.Search.{outside, firstFrom, anyBelow, countBelow, thoseBelow, anyIn, firstIn, elem, twice, same, maxBelow}
+use Rattle.lists.specs.Fill.{tabulate, blocks, padded}
+use Rattle.lists.specs.Fold.{foldLeft}
+use Rattle.rules.specs.Table.{recordAt, records, rankOf, hopsOf, pathOf, ownerOf, owned, pathsBelow, pathsOf, present, longest, nextHop, rest, first, listens, listensAt}
+use Rattle.rules.specs.Greedy.{isSettled, compatible, atStart, judged, stuckIn, best, stage, settledList, settled, enters, isQuiet, stagesFrom, stagesUntil, stageCount, stageOf, follows, fromVertex, beforeVertex, closedPart, lowestOf, turned, ringFrom}
+use Rattle.rules.specs.Stable.{extends, bestGiven}
+use Rattle.rules.specs.Report.{placeIn, rankIn, rowBytes, row, rowAt, report}
+use Rattle.rules.specs.Machine.{offsetOf, standingOf, badAt, speaks, byteFor, pathFor, badByte, heardFault, lastHeard, choice, step, standing, movement}
+use Rattle.rules.specs.Run.{pairsIn, isUp, isDown, more, offsetsOf, listeningOffsets, closes, begun, activated, run}
+use Rattle.rules.specs.Refusals.{refusedIf, refusedAt, _orElse_, hopsBad, vertexBad, unusedOf, fillerBad, twiceBad, lastBad, ownerBad, rankDue, rankBad, pathBad, inRecord, rule, recordRules, firstBroken, fault, faulty, firstBad, tooLong, ragged, badRecord, refusal}
+use Rattle.rules.specs.Answers.{otherLength, scheduleBad, firstBadPair, runRefusal, verdictOf, verdict}
+use Rattle.rules.specs.Text.{codes, digitsIn, decimal, labelled, spaced, routeWords, placeWords, refusedLine, verdictLine, stageWords, rowPath, rowLine, rowLines, ringLine, textOf, checkText}
+use Rattle.rules.specs.RunText.{signed, runLine, vertexLine, vertexLines, runTextOf, ranLine, runText, ranText}
+use Rattle.rules.specs.TriedExamples.{Example, recordBytes, tableBytes, checkPrints, runPrints, printedAs, _gives_, rawRecord, blockBytes, outcome, Works}
 use Rattle.rules.specs.CheckExamples.{table5, table6}
 use Rattle.rules.specs.RefusalExamples.{one, two}
 use Rattle.rules.specs.RunExamples.{twoPairs, sixSteps}
@@ -27,3 +41,18 @@ textExamples =
     ∷ (runPrints [] (2 ∷ 0 ∷ 3 ∷ []) gives printedAs "refused 13\n")
     ∷ (runPrints (one ++ two ++ recordBytes 1 (1 ∷ 2 ∷ 0 ∷ [])) [] gives printedAs "refused 9 record 2\n")
     ∷ []
+
+pub worked-text : Works textExamples
+unfolding outside firstFrom anyBelow countBelow thoseBelow anyIn firstIn elem twice same maxBelow tabulate blocks
+    padded foldLeft recordAt records rankOf hopsOf pathOf ownerOf owned pathsBelow pathsOf present longest nextHop
+    rest first listens listensAt isSettled compatible atStart judged stuckIn best stage settledList settled enters
+    isQuiet stagesFrom stagesUntil stageCount stageOf follows fromVertex beforeVertex closedPart lowestOf turned
+    ringFrom extends bestGiven placeIn rankIn rowBytes row rowAt report offsetOf standingOf badAt speaks byteFor
+    pathFor badByte heardFault lastHeard choice step standing movement pairsIn isUp isDown more offsetsOf
+    listeningOffsets closes begun activated run refusedIf refusedAt _orElse_ hopsBad vertexBad unusedOf fillerBad
+    twiceBad lastBad ownerBad rankDue rankBad pathBad inRecord rule recordRules firstBroken fault faulty firstBad
+    tooLong ragged badRecord refusal otherLength scheduleBad firstBadPair runRefusal verdictOf verdict codes digitsIn
+    decimal labelled spaced routeWords placeWords refusedLine verdictLine stageWords rowPath rowLine rowLines ringLine
+    textOf checkText signed runLine vertexLine vertexLines runTextOf ranLine runText ranText rawRecord recordBytes
+    blockBytes tableBytes outcome textExamples
+worked-text = record { works = refl }

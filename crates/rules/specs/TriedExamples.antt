@@ -2,7 +2,8 @@
 -- definition of the rules.
 use Prim.Native.Nat.{ℕ, zero, suc, pred, _-_}
 use Prim.Native.String.{String}
-use mathlib.Core.List.{List, [], _∷_, _++_}
+use mathlib.Core.Path.{_≡_}
+use mathlib.Core.List.{List, [], _∷_, _++_, map}
 use mathlib.Core.Option.{Option, none, some}
 use lib.ListN.{length, replicate}
 use lib.IntN.{ℤ, pos}
@@ -144,6 +145,10 @@ abbrev pub _gives_ : Input → Outcome → Example
 i gives o = record { input = i; expected = o }
 
 infix 10 _gives_
+-- What is tried gives what is written by hand, for every example of a list.
+pub record Works (examples : List Example) : Type 0 where
+  pub works : map (λ e. outcome (e .input)) examples ≡ map (λ e. e .expected) examples
+
 -- a text by its letters
 abbrev pub printedAs : String → Outcome
 printedAs text = printed (codes text)
