@@ -38,6 +38,10 @@ table6 = ((1 ∷ 2 ∷ 0 ∷ []) ∷ []) ∷ []
 abbrev pub table7 : List (List Path)
 table7 = ((1 ∷ 0 ∷ []) ∷ []) ∷ ((2 ∷ 1 ∷ 0 ∷ []) ∷ (2 ∷ 0 ∷ []) ∷ []) ∷ ((3 ∷ 2 ∷ 0 ∷ []) ∷ []) ∷ []
 
+-- Three stuck vertices, and a ring of two.
+abbrev pub threeStuck : List (List Path)
+threeStuck = ((1 ∷ 2 ∷ 0 ∷ []) ∷ []) ∷ ((2 ∷ 1 ∷ 0 ∷ []) ∷ []) ∷ ((3 ∷ 1 ∷ 0 ∷ []) ∷ []) ∷ []
+
 -- Two rings, 4 5 10 and 2 3; the lowest stuck vertex, 1, lies on neither and meets its ring at 5; 63 would meet the other. 1 is stuck on
 -- its path of rank 2, 6 is only named, 12 settles without a path though it owns one, and 13 to 62 are absent.
 abbrev pub twoRings : List (List Path)

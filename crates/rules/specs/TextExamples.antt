@@ -16,7 +16,7 @@ use Rattle.rules.specs.Answers.{otherLength, scheduleBad, firstBadPair, 
 use Rattle.rules.specs.Text.{codes, digitsIn, decimal, labelled, spaced, routeWords, placeWords, refusedLine, verdictLine, stageWords, rowPath, rowLine, rowLines, ringLine, textOf, checkText}
 use Rattle.rules.specs.RunText.{signed, runLine, vertexLine, vertexLines, runTextOf, ranLine, runText, ranText}
 use Rattle.rules.specs.TriedExamples.{Example, recordBytes, tableBytes, checkPrints, runPrints, printedAs, _gives_, rawRecord, blockBytes, outcome, Works}
-use Rattle.rules.specs.CheckExamples.{table5, table6}
+use Rattle.rules.specs.CheckExamples.{table5, table6, threeStuck}
 use Rattle.rules.specs.RefusalExamples.{one, two}
 use Rattle.rules.specs.RunExamples.{twoPairs, sixSteps}
 
@@ -28,6 +28,8 @@ textExamples =
     ∷ (checkPrints (tableBytes table5) gives printedAs "verdict stuck settled 1 stuck 2 stages 1 longest 2\n1 stage 1 rank 1 path 1 0\n2 stuck rank 1 path 2 3 0\n3 stuck rank 1 path 3 2 0\nring 2 3\n")
     -- Table 6: "A settled vertex without a path prints as `1 stage 2 none`."
     ∷ (checkPrints (tableBytes table6) gives printedAs "verdict complete settled 2 stuck 0 stages 2 longest 2\n1 stage 2 none\n2 stage 1 none\n")
+    -- more are stuck than the ring has
+    ∷ (checkPrints (tableBytes threeStuck) gives printedAs "verdict stuck settled 0 stuck 3 stages 0 longest 2\n1 stuck rank 1 path 1 2 0\n2 stuck rank 1 path 2 1 0\n3 stuck rank 1 path 3 1 0\nring 1 2\n")
     -- "A refusal prints `refused 9 record 2`": owners 1, 2, 1
     ∷ (checkPrints (one ++ two ++ recordBytes 1 (1 ∷ 2 ∷ 0 ∷ [])) gives printedAs "refused 9 record 2\n")
     -- "or `refused 3` for 1 to 3": 17 bytes
