@@ -17,8 +17,8 @@ use Rattle.rules.specs.Machine.{lastHeard, offsetOf, standingOf, badAt, 
 use Rattle.rules.specs.Run.{countsOf, listeningOffsets, run, pairsIn, isUp, isDown, more, offsetsOf, closes, begun, activated}
 use Rattle.rules.specs.Refusals.{refusedIf, refusedAt, _orElse_, hopsBad, vertexBad, unusedOf, fillerBad, twiceBad, lastBad, ownerBad, rankDue, rankBad, pathBad, inRecord, rule, recordRules, firstBroken, fault, faulty, firstBad, tooLong, ragged, badRecord, refusal}
 use Rattle.rules.specs.Answers.{choicesIn, runRefusal, otherLength, scheduleBad, firstBadPair, unless}
-use Rattle.rules.specs.Text.{codes, decimal, placeWords, rowLines, digitsIn, labelled, spaced, routeWords, stageWords, rowPath, rowLine}
-use Rattle.rules.specs.RunText.{signed}
+use Rattle.rules.specs.Text.{codes, decimal, placeWords, verdictLine, rowLines, digitsIn, labelled, spaced, routeWords, stageWords, rowPath, rowLine}
+use Rattle.rules.specs.RunText.{signed, runLine}
 use Rattle.rules.specs.Entries.{codeOf, fourBytes, sumBytes, wordBytes, twosComplement}
 use Rattle.rules.specs.TriedExamples.{Example, tableBytes, shown, origin, absent, zeros, lentSums, pair, alone, counts, _gives_, rawRecord, recordBytes, blockBytes, outcome, Works}
 use Rattle.rules.specs.CheckExamples.{table3, table7}
@@ -83,6 +83,8 @@ smallExamples =
     ∷ (alone (codes "r0\n") gives counts (114 ∷ 48 ∷ 10 ∷ []))
     -- printed numbers: 0, ten digits, the last ten of eleven, and with a sign
     ∷ (alone (decimal 0 ++ codes " " ++ decimal 4294967295 ++ codes " " ++ decimal 12345678901 ++ codes " " ++ signed (negsuc 15) ++ signed (pos 16)) gives counts (codes "0 4294967295 2345678901 -1616"))
+    -- which number stands behind which word
+    ∷ (alone (verdictLine (codes "so") (1 ∷ 2 ∷ 3 ∷ 4 ∷ 5 ∷ []) ++ runLine (1 ∷ 2 ∷ 3 ∷ 4 ∷ 5 ∷ [])) gives counts (codes "verdict so settled 2 stuck 3 stages 4 longest 5\nrun steps 1 ups 2 downs 3 last 4 rounds 5\n"))
     -- the word before a place
     ∷ (alone (placeWords 3 1 ++ placeWords 4 2 ++ placeWords 11 3 ++ placeWords 12 4 ++ placeWords 13 5 ++ placeWords 14 6 ++ placeWords 15 7) gives counts (codes " record 2 record 3 offset 4 pair 6"))
     ∷ []
@@ -96,7 +98,7 @@ unfolding outside firstFrom anyBelow thoseBelow anyIn firstIn elem twice same ta
     pairsIn isUp isDown more offsetsOf listeningOffsets closes begun activated run refusedIf refusedAt _orElse_
     hopsBad vertexBad unusedOf fillerBad twiceBad lastBad ownerBad rankDue rankBad pathBad inRecord rule recordRules
     firstBroken fault faulty firstBad tooLong ragged badRecord refusal otherLength scheduleBad firstBadPair runRefusal
-    unless choicesIn codes digitsIn decimal labelled spaced routeWords placeWords stageWords rowPath rowLine rowLines
-    signed codeOf fourBytes wordBytes twosComplement sumBytes rawRecord recordBytes blockBytes tableBytes shown absent
+    unless choicesIn codes digitsIn decimal labelled spaced routeWords placeWords verdictLine stageWords rowPath rowLine rowLines
+    signed runLine codeOf fourBytes wordBytes twosComplement sumBytes rawRecord recordBytes blockBytes tableBytes shown absent
     outcome flat rising smallExamples
 worked-small = record { works = refl }
