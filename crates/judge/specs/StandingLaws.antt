@@ -14,7 +14,8 @@ use lib.Dec.{eqb, ltb}
 use borrow.Author.Tests.{eq-eqb, ne-eqb}
 use Rattle.lists.specs.Tests.{by-test, by-equal, none≢some}
 use Rattle.lists.specs.Search.{same}
-use Rattle.lists.specs.Fill.{tabulate, renewed}
+use Rattle.lists.specs.Fill.{tabulate}
+use Rattle.lists.specs.Renew.{renewed}
 use Rattle.lists.specs.RenewLaws.{renewed-none, renewed-keep, renewed-store, renewed-all}
 use Rattle.rules.specs.Table.{Path, pathAt, nextHop}
 use Rattle.rules.specs.Greedy.{Settled, compatible}

@@ -9,7 +9,8 @@ use lib.ListN.{length, getD, set, replicate, length-append, length-map, length-r
 use lib.Dec.{eqb, ltb}
 use borrow.Author.Tests.{eq-eqb, ne-eqb, lt-ltb, le-ltb}
 use Rattle.lists.specs.Search.{anyBelow, anyIn, elem, maxBelow, thoseBelow}
-use Rattle.lists.specs.Fill.{padded, tabulate, marked}
+use Rattle.lists.specs.Fill.{padded, tabulate}
+use Rattle.lists.specs.Renew.{marked}
 use Rattle.lists.specs.SearchLaws.{max-suc, any-below-suc, those-in, those-out, those-count, count-most}
 use Rattle.lists.specs.ListLaws.{any-append, any-cons, any-nil}
 use Rattle.lists.specs.FillLaws.{is-tabulate, mark-one, tabulate-ext, tabulate-set, tabulate-at, mark-list, padded-more, padded-full}

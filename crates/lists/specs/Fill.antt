@@ -1,18 +1,13 @@
 -- Lists made from the front: one element or one block for each number below a bound, and a list padded to a length.
 use Prim.Native.Nat.{ℕ, zero, suc}
-use mathlib.Core.Bool.{Bool, true}
 use mathlib.Core.List.{List, [], _∷_, _++_}
-use lib.ListN.{take, drop, replicate, set}
+use lib.ListN.{take, replicate}
 
 module _ {A : Type 0} where
   -- f 0, f 1, .. below n
   unfoldable pub tabulate : (ℕ → A) → ℕ → List A
   tabulate f zero = []
   tabulate f (suc n) = tabulate f n ++ f n ∷ []
-
-  -- a list that is made anew from the front, and has come to k: f below k, what stood there from k on
-  unfoldable pub renewed : (ℕ → A) → List A → ℕ → List A
-  renewed f old k = tabulate f k ++ drop k old
 
   -- the lists f 0, f 1, .. below n, end to end
   unfoldable pub blocks : (ℕ → List A) → ℕ → List A
@@ -22,8 +17,3 @@ module _ {A : Type 0} where
   -- the list, then x up to n elements; what is past n goes
   unfoldable pub padded : ℕ → A → List A → List A
   padded n x xs = take n (xs ++ replicate n x)
-
--- a list of marks with those at the given places set
-unfoldable pub marked : List Bool → List ℕ → List Bool
-marked marks [] = marks
-marked marks (n ∷ ns) = marked (set marks n true) ns

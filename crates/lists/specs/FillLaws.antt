@@ -12,7 +12,8 @@ use lib.Seq.{ext-getD, getD-at, take-append-le, take-all, take-at, drop-append-l
 use lib.Dec.{eqb}
 use borrow.Author.Tests.{eq-eqb, ne-eqb}
 use Rattle.lists.specs.Search.{elem}
-use Rattle.lists.specs.Fill.{tabulate, blocks, padded, marked}
+use Rattle.lists.specs.Fill.{tabulate, blocks, padded}
+use Rattle.lists.specs.Renew.{marked}
 use Rattle.lists.specs.Tests.{by-equal}
 use Rattle.lists.specs.ListLaws.{elem-cons, elem-nil, elem-at, elem-place, met-more}
 

@@ -1,8 +1,9 @@
 -- Lists, numbers and tests: what the rules are written with. Nothing of routing is in here.
--- The definitions.
+-- The definitions that the rules are written with, and those that only the proofs of the code use.
 pub mod Search
 pub mod Fill
 pub mod Fold
+pub mod Renew
 -- The laws.
 pub mod Tests
 pub mod NumberLaws

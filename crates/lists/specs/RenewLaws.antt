@@ -6,7 +6,8 @@ use native.Mathlib.Omega.{arith}
 use native.Mathlib.Numerals.{add-one}
 use lib.ListN.{length, getD, take, drop, set, length-append, length-drop, drop-of-length-le}
 use lib.Seq.{append-snoc, drop-cons, set-at, length-take-le, take-append-add, take-append-seam}
-use Rattle.lists.specs.Fill.{tabulate, renewed, blocks}
+use Rattle.lists.specs.Fill.{tabulate, blocks}
+use Rattle.lists.specs.Renew.{renewed}
 use Rattle.lists.specs.FillLaws.{tabulate-suc, tabulate-length, blocks-suc, blocks-none}
 
 module _ {A : Type 0} (f : ℕ → A) (old : List A) where

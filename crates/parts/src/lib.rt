@@ -4,7 +4,8 @@ ghost use mathlib.Core.Bool.{true, false};
 ghost use Prim.Native.Nat.{min, max};
 ghost use lib.ListN.{getD, length, set};
 ghost use Rattle.lists.specs.Search.{anyIn, outside, same, twice};
-ghost use Rattle.lists.specs.Fill.{marked, padded};
+ghost use Rattle.lists.specs.Fill.{padded};
+ghost use Rattle.lists.specs.Renew.{marked};
 
 // The byte at k, 0 past the end.
 pub fn byte_at(part: &[u8], k: usize) -> u8

@@ -5,7 +5,7 @@ use Prim.Native.Nat.{_≤_, _-_}
 use native.Mathlib.Omega.{arith}
 use borrow.Author.Needs.{needs}
 use lib.ListN.{length, drop}
-use Rattle.lists.specs.Fill.{marked}
+use Rattle.lists.specs.Renew.{marked}
 use Rattle.lists.specs.FillLaws.{marked-next, marked-end}
 use Rattle.parts.proofs.mark_all.Statement.{statement}
 use Rattle.parts.proofs.mark_all.Tie as tie
