@@ -20,6 +20,8 @@ LOGS = ROOT / ".build" / "log"
 COUNTS = re.compile(r"(\d+) passed, (\d+) failed")
 # How the prover names what fails: at a proof file, and at a function that has none.
 COMPLAINT = re.compile(r"\berror[:\[]|it is not proved that")
+# An error at a place of a file; the rest of its words may stand on the lines below.
+ERROR = re.compile(r"^\S+\.antt:\d+:\d+: error\b")
 # What the prover says first where an edit only made the proof file unfit for the code, so that no fact was tried.
 MISFITS = (
     "has no `Need-",
@@ -121,13 +123,13 @@ def judge_edits(root):
         _, crate, _, *label = edit.relative_to(root).parts
         # For rt a file with another ending or in a folder below is no edit, so it has no log and is found here.
         name = "/".join([crate, *label]).removesuffix(".edit")
-        fault = edit_fault(root / "target" / "must-fail" / name / ".log")
+        fault = edit_fault(root / "target" / "must-fail" / name / ".log", crate)
         counts = counts.plus(Counts(0, [f"must-fail {name}: {fault}"]) if fault else Counts(1, []))
     return counts
 
 
-def edit_fault(log):
-    """What is wrong with an edit's log, or nothing."""
+def edit_fault(log, crate):
+    """What is wrong with an edit's log, or nothing. In `rules` an example must notice, and not the definitions themselves."""
     if not log.is_file():
         return "it has no log, so nothing refused it"
     lines = log.read_text(encoding="utf-8", errors="replace").splitlines()
@@ -136,6 +138,8 @@ def edit_fault(log):
         return "its log names no fact that fails"
     if any(words in first for words in MISFITS):
         return "its first error only says that the proof file no longer fits"
+    if crate == "rules" and not all("Examples.antt:" in line for line in lines if ERROR.search(line)):
+        return "it is refused elsewhere than at an example"
     return None
 
 

@@ -1,4 +1,5 @@
-"""What README and docs/PROOFS.md name exists: each theorem, contract, definition and file."""
+"""What README and docs/PROOFS.md name exists: each theorem, contract, definition and file; and what holds each definition of
+the rules is told and tried."""
 
 import re
 import unittest
@@ -59,6 +60,62 @@ def place(file):
     crate, _, rest = file.partition("/")
     for pattern in (file, f"crates/{file}", f"crates/{crate}/specs/{rest}", f"crates/*/specs/{file}"):
         yield next(ROOT.glob(pattern), None)
+
+
+# ---- the definitions of the rules
+
+RULES = ROOT / "crates" / "rules"
+# What begins a definition; a record of values, a data type and a type's short name have no meaning of their own.
+BEGINS = re.compile(r"^ *(?:unfoldable pub|abbrev pub|pub record|pub data) (\S+)", re.MULTILINE)
+TYPES = {"Path", "Settled", "Pair", "Report", "Tally", "Refusal", "Rule", "Verdict"}
+
+
+def definition_files():
+    return [path for path in sorted(RULES.glob("specs/*.antt")) if not path.stem.endswith(("Examples", "Lib"))]
+
+
+def parts_of(text):
+    """Each definition's name, with its text down to the next one."""
+    found = [*BEGINS.finditer(text)]
+    ends = [one.start() for one in found[1:]] + [len(text)]
+    return [(one[1], text[one.start() : end]) for one, end in zip(found, ends)]
+
+
+def defined():
+    """The file and the name of each definition of the rules that has a meaning."""
+    texts = [(path.name, path.read_text(encoding="utf-8")) for path in definition_files()]
+    return {(file, name) for file, text in texts for name, _ in parts_of(text) if name not in TYPES}
+
+
+def changed_by(edit):
+    """The definitions that the first replacements of a must-fail edit of the rules stand in."""
+    file = re.search(r"^file: specs/(.*)$", edit, re.MULTILINE)[1]
+    parts = parts_of((RULES / "specs" / file).read_text(encoding="utf-8"))
+    return {(file, name) for old in re.findall(r"^old: (.*)$", edit, re.MULTILINE) for name, text in parts if old in text}
+
+
+def believed(files):
+    """The lines of some files but for comments, imports and empty ones."""
+    lines = [line for path in files for line in path.read_text(encoding="utf-8").splitlines()]
+    return len([line for line in lines if line.strip() and not line.lstrip().startswith("--") and not line.startswith("use ")])
+
+
+class Definitions(unittest.TestCase):
+    def test_each_has_its_line(self):
+        table = [row for row in rows("docs/PROOFS.md") if len(row) == 4 and row[0].endswith(".antt`")]
+        told = [(row[0].strip("`"), name) for row in table for name in CODE.findall(row[1])]
+        self.assertEqual(sorted(told), sorted(defined()))
+
+    def test_each_has_an_edit(self):
+        edits = [path.read_text(encoding="utf-8") for path in RULES.glob("must-fail/*.edit")]
+        self.assertEqual(defined() - {place for edit in edits for place in changed_by(edit)}, set())
+
+    def test_how_much_is_to_be_believed(self):
+        lists = believed(ROOT / "crates" / "lists" / "specs" / f"{name}.antt" for name in ("Search", "Fill", "Fold"))
+        rules = believed(definition_files())
+        words = f"{lists + rules} lines, without comments and imports: {lists} of `lists` and {rules} of `rules`"
+        self.assertIn(words, (ROOT / "docs" / "PROOFS.md").read_text(encoding="utf-8"))
+        self.assertIn(f"{rules} lines of definitions, with {lists} of", (ROOT / "README.md").read_text(encoding="utf-8"))
 
 
 class Named(unittest.TestCase):

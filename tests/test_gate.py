@@ -27,10 +27,10 @@ class Folder(unittest.TestCase):
 
 
 class Edits(Folder):
-    def judged(self, log, label="weak", edit="weak.edit"):
-        self.write(f"crates/reader/must-fail/{edit}", "")
+    def judged(self, log, label="weak", edit="weak.edit", crate="reader"):
+        self.write(f"crates/{crate}/must-fail/{edit}", "")
         if log is not None:
-            self.write(f"target/must-fail/reader/{label}/.log", log)
+            self.write(f"target/must-fail/{crate}/{label}/.log", log)
         return gate.judge_edits(self.root)
 
     def test_no_edit_at_all(self):
@@ -63,6 +63,13 @@ class Edits(Folder):
     def test_a_log_without_a_failed_fact(self):
         failures = ["must-fail reader/weak: its log names no fact that fails"]
         self.assertEqual(self.judged("logic=proved\n").failures, failures)
+
+    def test_a_definition_is_refused_at_an_example(self):
+        example, definition = (f"specs/{file}.antt:9:1: error: `x`: the two types differ\n" for file in ("RunExamples", "Run"))
+        elsewhere = ["must-fail rules/weak: it is refused elsewhere than at an example"]
+        self.assertEqual(self.judged(example, crate="rules").failures, [])
+        self.assertEqual(self.judged(definition, crate="rules").failures, elsewhere)
+        self.assertEqual(self.judged(example + definition, crate="rules").failures, elsewhere)
 
     def test_a_file_that_rt_passes_over(self):
         for edit in ("weak.txt", "below/weak.edit"):
