@@ -40,6 +40,8 @@ LISTS = ("Search.antt", "Fill.antt", "Fold.antt")
 TIMES = 5
 CPU_SECONDS = 15
 CLOCK_SECONDS = 300
+# How many example files are checked first.
+FIRST_FILES = 3
 USED = re.compile(r"^use Rattle·\S+\.specs\.(\w+)", re.MULTILINE)
 ERROR = re.compile(r"^(\S+\.antt):\d+:\d+: error: .*$", re.MULTILINE)
 
@@ -146,15 +148,11 @@ class Examples:
 
     def stages(self, file):
         """The example files to check after a change, a few at first, since most changes are noticed early and a whole
-        check is slow; at last all that rest on the changed file."""
-        reach = {stem: self.reach(stem) for stem in self.texts}
-        able = sorted((len(reach[stem]), stem) for stem in self.texts if Path(file).stem in reach[stem])
-        size = 1
-        while True:
+        check is slow; at last all that rest on the changed file. A file without a proof notices nothing."""
+        reach = {stem: self.reach(stem) for stem, text in self.texts.items() if re.search(r"\brefl\b", text)}
+        able = sorted((len(reach[stem]), stem) for stem in reach if Path(file).stem in reach[stem])
+        for size in sorted({min(FIRST_FILES, len(able)), len(able)}):
             yield {one for _, stem in able[:size] for one in reach[stem] if one in self.texts}
-            if size >= len(able):
-                return
-            size *= 2
 
     def show(self, shown):
         """Leaves the given example files in the repository, and no other."""

@@ -202,16 +202,19 @@ class Stages(Folder):
 
     def setUp(self):
         super().setUp()
-        uses = {"Table": "", "Greedy": "Table", "Text": "", "Examples": "Greedy", "TextExamples": "Text Examples"}
+        uses = {"Table": "", "Greedy": "Table", "Text": "", "Examples": "Table", "RunExamples": "Greedy"}
+        uses |= {"RingExamples": "Greedy Examples", "TextExamples": "Text RingExamples"}
         for stem, used in uses.items():
             lines = [f"use Rattle.rules.specs.{one}.{{x}}\n" for one in used.split()]
-            self.write(f"crates/rules/specs/{stem}.antt", "".join(lines))
-        self.write("crates/rules/specs/Lib.antt", "".join(f"pub mod {stem}\n" for stem in uses))
+            self.write(f"crates/rules/specs/{stem}.antt", "".join(lines) + "worked = refl\n")
+        self.write("crates/rules/specs/TriedExamples.antt", "use Rattle.rules.specs.Table.{x}\n")
+        self.write("crates/rules/specs/Lib.antt", "".join(f"pub mod {stem}\n" for stem in [*uses, "TriedExamples"]))
         self.examples = mutate.Examples(self.root)
 
     def test_those_that_rest_on_the_changed_file(self):
-        self.assertEqual([*self.examples.stages("Table.antt")], [{"Examples"}, {"Examples", "TextExamples"}])
-        self.assertEqual([*self.examples.stages("Text.antt")], [{"Examples", "TextExamples"}])
+        few = {"Examples", "RunExamples", "RingExamples"}
+        self.assertEqual([*self.examples.stages("Table.antt")], [few, few | {"TextExamples"}])
+        self.assertEqual([*self.examples.stages("Text.antt")], [{"Examples", "RingExamples", "TextExamples"}])
         self.assertEqual([*self.examples.stages("Other.antt")], [set()])
 
     def test_the_others_are_not_there(self):

@@ -9,7 +9,6 @@ use mathlib.Core.List.{List, [], _∷_, map}
 use mathlib.Core.Option.{none}
 use lib.ListN.{length, getD, replicate, drop}
 use Rattle.lists.specs.Search.{thoseBelow, anyIn, firstIn}
-use Rattle.lists.specs.Fill.{padded}
 use Rattle.rules.specs.Table.{recordAt, records, rankOf, hopsOf, pathOf, ownerOf, owned, pathsBelow, pathsOf, nextHop, listens}
 use Rattle.rules.specs.Report.{rowAt, pathShown, report}
 use Rattle.rules.specs.Machine.{Pair, choice}
@@ -19,7 +18,6 @@ use Rattle.rules.specs.Refusals.{refusal}
 use Rattle.rules.specs.Answers.{firstBadPair, heardAfterStep}
 use Rattle.rules.specs.Entries.{rowsForC, ringForC, checkNumbersForC, heardStepForC}
 use Rattle.rules.specs.TriedExamples.{rawRecord, recordBytes, blockBytes, tableBytes}
-use Rattle.rules.specs.CheckExamples.{table7}
 use Rattle.laws.specs.EntryLaws.{numberAt}
 use Rattle.laws.specs.AnswerLaws.{step-accepted}
 use Rattle.laws.specs.RunLaws.{noPair, all-listen}
@@ -70,8 +68,8 @@ seenBySteps = seenOf table7Bytes leftover bySteps
 
 -- all of them are listening pairs
 all-right : firstBadPair (pathsOf table7Bytes) (pairsOf sixRounds) ≡ none
-unfolding firstBadPair firstIn anyIn thoseBelow padded recordAt records rankOf hopsOf pathOf ownerOf owned pathsBelow pathsOf nextHop listens recordBytes blockBytes tableBytes
-    table7 table7Bytes pairsIn pairsOf pairsOfCall slowRound times aRun sixRounds
+unfolding firstBadPair firstIn anyIn thoseBelow recordAt records rankOf hopsOf pathOf ownerOf owned pathsBelow pathsOf nextHop listens rawRecord recordBytes blockBytes tableBytes
+    table7Bytes pairsIn pairsOf pairsOfCall slowRound times aRun sixRounds
 all-right = refl
 
 -- buffers for the check

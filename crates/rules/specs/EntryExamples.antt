@@ -18,7 +18,7 @@ use Rattle.rules.specs.Entries.{codeOf, fourBytes, wordBytes, numberByte
 use Rattle.rules.specs.TriedExamples.{Example, recordBytes, tableBytes, shown, origin, absent, lent, small, zeros, pair, checkCall, checkForC, stepForC, runForC, checkGave, gaveToC, _gives_, rawRecord, blockBytes, outcome, Works}
 use Rattle.rules.specs.CheckExamples.{table2, table7, threeStuck}
 use Rattle.rules.specs.RefusalExamples.{one, two}
-use Rattle.rules.specs.RunExamples.{twoPairs, heardAt}
+use Rattle.rules.specs.RunExamples.{inARow, oldNews, newNews, heardAt}
 
 abbrev pub threeRows : List ℕ
 threeRows =
@@ -43,6 +43,7 @@ entryExamples =
     ∷ (checkCall [] (lent 1025) (lent 64) gives checkGave (refused 1 0) (replicate 5 0) (lent 1025) (lent 64))
     ∷ (checkCall [] (lent 1024) (lent 63) gives checkGave (refused 1 0) (replicate 5 0) (lent 1024) (lent 63))
     ∷ (checkCall (lent 17) (lent 1024) (lent 65) gives checkGave (refused 1 0) (replicate 5 0) (lent 1024) (lent 65))
+    ∷ (checkCall (lent 17) (lent 1024) (lent 64) gives checkGave (refused 3 0) (replicate 5 0) (lent 1024) (lent 64))
     ∷ (checkCall apart (lent 1024) (lent 64) gives checkGave (refused 9 2) (replicate 5 0) (lent 1024) (lent 64))
     -- the check for C: code 0 and the five numbers as words; 1 for the buffer of numbers; 9 at record 2 is 9 + 2 * 256
     ∷ (checkForC (tableBytes threeStuck) (lent 1024) (lent 64) (lent 32) gives gaveToC 0
@@ -56,9 +57,9 @@ entryExamples =
     ∷ (stepForC (lent 17) zeros (pair 3 2) (lent 31) gives gaveToC 1 (zeros ∷ lent 31 ∷ []))
     ∷ (stepForC (lent 17) zeros (pair 3 2) (lent 33) gives gaveToC 1 (zeros ∷ lent 33 ∷ []))
     ∷ (stepForC (tableBytes table7) (heardAt 194 3) (pair 3 2) (lent 32) gives gaveToC 49676 (heardAt 194 3 ∷ lent 32 ∷ []))
-    -- the run for C: the five numbers and the 64 sums as words, the sum of 2 being -16; 1 for the sums and for the numbers; 14 at pair 1 is 14 + 256
-    ∷ (runForC (tableBytes twoPairs) (heardAt 129 1) (2 ∷ 1 ∷ []) (lent 256) (lent 32) gives gaveToC 0
-    (zeros ∷ (replicate 8 0 ++ 240 ∷ 255 ∷ 255 ∷ 255 ∷ replicate 244 0) ∷ (small 1 ++ small 0 ++ small 1 ++ small 1 ++ small 0 ++ replicate 12 0) ∷ []))
+    -- the run for C: the five numbers and the 64 sums as words, the sum of 3 being -16; 1 for the sums and for the numbers; 14 at pair 1 is 14 + 256
+    ∷ (runForC (tableBytes inARow) oldNews (3 ∷ 2 ∷ 2 ∷ 1 ∷ []) (lent 256) (lent 32) gives gaveToC 0
+    (newNews ∷ (replicate 8 0 ++ small 16 ++ 240 ∷ 255 ∷ 255 ∷ 255 ∷ replicate 240 0) ∷ (small 2 ++ small 1 ++ small 1 ++ small 2 ++ small 0 ++ replicate 12 0) ∷ []))
     ∷ (runForC (lent 17) zeros [] (lent 255) (lent 32) gives gaveToC 1 (zeros ∷ lent 255 ∷ lent 32 ∷ []))
     ∷ (runForC [] zeros [] (lent 257) (lent 32) gives gaveToC 1 (zeros ∷ lent 257 ∷ lent 32 ∷ []))
     ∷ (runForC [] zeros [] (lent 256) (lent 33) gives gaveToC 1 (zeros ∷ lent 256 ∷ lent 33 ∷ []))

@@ -31,6 +31,16 @@ twoPairs = ((1 ∷ 0 ∷ []) ∷ []) ∷ ((2 ∷ 1 ∷ 0 ∷ []) ∷ []) ∷ []
 abbrev pub sixSteps : List ℕ
 sixSteps = 2 ∷ 1 ∷ 1 ∷ 0 ∷ 1 ∷ 0 ∷ 2 ∷ 1 ∷ 1 ∷ 0 ∷ 2 ∷ 1 ∷ []
 
+-- Three in a row, (1,0), (2,1) and (3,2); 1 has heard (0), and 3 a path that 2 no longer has. Then 3 hears 2, and 2 hears 1.
+abbrev pub inARow : List (List Path)
+inARow = ((1 ∷ 0 ∷ []) ∷ []) ∷ ((2 ∷ 1 ∷ 0 ∷ []) ∷ []) ∷ ((3 ∷ 2 ∷ 1 ∷ 0 ∷ []) ∷ []) ∷ []
+
+abbrev pub oldNews : List ℕ
+oldNews = replicate 64 0 ++ 1 ∷ replicate 129 0 ++ 1 ∷ replicate 3901 0
+
+abbrev pub newNews : List ℕ
+newNews = replicate 64 0 ++ 1 ∷ replicate 64 0 ++ 1 ∷ replicate 3966 0
+
 -- a heard state of zeros but for one byte
 abbrev pub heardAt : ℕ → ℕ → List ℕ
 heardAt k b = replicate k 0 ++ b ∷ replicate (4095 - k) 0
@@ -56,8 +66,11 @@ runExamples =
     (7 ∷ 2 ∷ 1 ∷ 3 ∷ 2 ∷ [])
     (replicate 64 0 ++ 1 ∷ replicate 63 0 ++ 1 ∷ 1 ∷ replicate 3966 0)
     (sums3 (pos 16) (pos 0) (pos 0)))
-    -- Table 2 from zeros, its one pair twice, and each answer of the run: the second step changes nothing, and each step closes a round.
-    ∷ (runCall (tableBytes table2) zeros (1 ∷ 0 ∷ 1 ∷ 0 ∷ []) (lentSums 64) gives runGave none (2 ∷ 1 ∷ 0 ∷ 1 ∷ 2 ∷ []) (heardAt 64 1) (sums3 (pos 16) (pos 0) (pos 0)))
+    -- Table 2 from zeros, its one pair twice: the second step changes nothing, and each step closes a round.
+    ∷ (runs (tableBytes table2) zeros (1 ∷ 0 ∷ 1 ∷ 0 ∷ []) gives ran (pos 16 ∷ pos 0 ∷ []) (2 ∷ 1 ∷ 0 ∷ 1 ∷ 2 ∷ []) (heardAt 64 1) (sums3 (pos 16) (pos 0) (pos 0)))
+    -- Each answer of a run: 3 loses its path, 2 finds one.
+    ∷ (runCall (tableBytes inARow) oldNews (3 ∷ 2 ∷ 2 ∷ 1 ∷ []) (lentSums 64) gives runGave none (2 ∷ 1 ∷ 1 ∷ 2 ∷ 0 ∷ []) newNews
+    (sums3 (pos 0) (pos 16) (negsuc 15)))
     -- 1 comes before the table's numbers, and these before 12
     ∷ (runs (0 ∷ []) [] [] gives refused 1 0)
     ∷ (runs (0 ∷ []) (heardAt 130 1) [] gives refused 3 0)

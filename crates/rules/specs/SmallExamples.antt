@@ -77,7 +77,7 @@ smallExamples =
     ∷ (alone (pathShown (shown 1 2 3 (4 ∷ 5 ∷ 6 ∷ 0 ∷ [])) ++ pathShown (shown 1 0 0 []) ++ vertices (7 ∷ 255 ∷ 8 ∷ [])) gives counts (4 ∷ 5 ∷ 6 ∷ 0 ∷ 7 ∷ []))
     ∷ (alone (rowAt (rising 48 0) 1) gives counts (rising 16 16))
     -- "four bytes each, low byte first"; "negative numbers are two's complement"
-    ∷ (alone (fourBytes 16909060) gives counts (4 ∷ 3 ∷ 2 ∷ 1 ∷ []))
+    ∷ (alone (fourBytes 16909060 ++ fourBytes 4278190080 ++ fourBytes 4294967301) gives counts (4 ∷ 3 ∷ 2 ∷ 1 ∷ 0 ∷ 0 ∷ 0 ∷ 255 ∷ 5 ∷ 0 ∷ 0 ∷ 0 ∷ []))
     ∷ (alone (sumBytes (pos 65536 ∷ negsuc 0 ∷ negsuc 15 ∷ [])) gives counts (0 ∷ 0 ∷ 1 ∷ 0 ∷ 255 ∷ 255 ∷ 255 ∷ 255 ∷ 240 ∷ 255 ∷ 255 ∷ 255 ∷ replicate 244 0))
     -- a text's letters
     ∷ (alone (codes "r0\n") gives counts (114 ∷ 48 ∷ 10 ∷ []))
