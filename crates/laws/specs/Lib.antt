@@ -4,6 +4,7 @@ pub mod Accepted
 pub mod Blocks
 pub mod ShapeLaws
 pub mod Sanity
+pub mod Deepest
 -- What the page says in plain words, and that the definitions say exactly that.
 pub mod Plain
 pub mod ExactRules

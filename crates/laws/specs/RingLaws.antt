@@ -14,7 +14,7 @@ use Rattle.lists.specs.SearchLaws.{Found, first-found, first-none, finds-passin
 use Rattle.lists.specs.ListLaws.{twice-apart, apart-twice}
 use Rattle.lists.specs.Tests.{by-test, by-equal, by-less, by-option, true≢, none≢some, and-parts, both}
 use Rattle.lists.specs.Fill.{tabulate}
-use Rattle.lists.specs.FillLaws.{tabulate-suc, tabulate-length, tabulate-at, tabulate-ext, tabulate-add, tabulate-take, tabulate-drop, tabulate-elem, tabulate-place}
+use Rattle.lists.specs.FillLaws.{tabulate-length, tabulate-at, tabulate-ext, tabulate-add, tabulate-take, tabulate-drop, tabulate-elem, tabulate-place}
 use Rattle.rules.specs.Table.{Path, nextHop}
 use Rattle.rules.specs.Greedy.{Settled, isSettled, compatible, best, judged, settled, stageCount, stuckIn, follows, fromVertex, beforeVertex, closedPart, lowestOf, turned, ringFrom}
 use Rattle.laws.specs.Shape.{Permitted, Shaped}
@@ -222,7 +222,7 @@ module _ (stuck : ℕ → Bool) (next : ℕ → ℕ) (w : Following stuck next) 
   closed (suc f) n v s e a =
       by-test (elem (after next n v) (way next n v))
       (λ q. rw (q, closedPart) (met-at n v a q))
-      (λ q. rw (q, closedPart, ← tabulate-suc (λ k. after next k v) n) (closed f (suc n) v s (omega arith)
+      (λ q. rw (q, closedPart) (closed f (suc n) v s (omega arith)
       (λ i j h l d. by-equal j n
       (λ r. true≢ (rw (d, r) at (tabulate-elem (λ k. after next k v) n i (omega arith))) q)
       (λ r. a i j h (omega arith) d))))

@@ -7,12 +7,12 @@ module _ {A : Type 0} where
   -- f 0, f 1, .. below n
   unfoldable pub tabulate : (ℕ → A) → ℕ → List A
   tabulate f zero = []
-  tabulate f (suc n) = f 0 ∷ tabulate (λ k. f (suc k)) n
+  tabulate f (suc n) = tabulate f n ++ f n ∷ []
 
   -- the lists f 0, f 1, .. below n, end to end
   unfoldable pub blocks : (ℕ → List A) → ℕ → List A
   blocks f zero = []
-  blocks f (suc n) = f 0 ++ blocks (λ k. f (suc k)) n
+  blocks f (suc n) = blocks f n ++ f n
 
   -- the list, then x up to n elements; what is past n goes
   unfoldable pub padded : ℕ → A → List A → List A

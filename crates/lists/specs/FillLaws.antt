@@ -17,27 +17,14 @@ use Rattle.lists.specs.Renew.{marked}
 use Rattle.lists.specs.Tests.{by-equal}
 use Rattle.lists.specs.ListLaws.{elem-cons, elem-nil, elem-at, elem-place, met-more}
 
--- the last element, or the last block, stands at the end
-
-tabulate-last : {A : Type 0} (f : ℕ → A) (n : ℕ) → tabulate f (suc n) ≡ tabulate f n ++ f n ∷ []
-unfolding tabulate
-tabulate-last f zero = refl
-tabulate-last f (suc n) = ap (λ (l : List _). f 0 ∷ l) (tabulate-last (λ k. f (suc k)) n)
-
-blocks-last : {A : Type 0} (f : ℕ → List A) (n : ℕ) → blocks f (suc n) ≡ blocks f n ++ f n
-unfolding blocks
-blocks-last f zero = append-nil (f 0)
-blocks-last f (suc n) =
-    let next : ℕ → List _ = λ k. f (suc k) in
-    ap (λ (l : List _). f 0 ++ l) (blocks-last next n) ∙ sym (append-assoc (f 0) (blocks next n) (next n))
-
 module _ {A : Type 0} (f : ℕ → A) where
   pub tabulate-none : tabulate f 0 ≡ []
   unfolding tabulate
   tabulate-none = refl
 
   pub tabulate-suc : (n : ℕ) → tabulate f (suc n) ≡ tabulate f n ++ f n ∷ []
-  tabulate-suc n = tabulate-last f n
+  unfolding tabulate
+  tabulate-suc n = refl
 
   pub tabulate-length : (n : ℕ) → length (tabulate f n) ≡ n
   tabulate-length zero = ap length tabulate-none
@@ -59,9 +46,7 @@ module _ {A : Type 0} (f : ℕ → A) where
   tabulate-add a zero = let z : a + 0 ≡ a = omega arith in rw z (sym (append-nil (tabulate f a)))
   tabulate-add a (suc b) =
       let z : a + suc b ≡ suc (a + b) = omega arith in
-      let further : ℕ → A = λ k. f (a + k) in
-      ap (tabulate f) z ∙ tabulate-suc (a + b) ∙ ap (λ (l : List A). l ++ f (a + b) ∷ []) (tabulate-add a b)
-      ∙ append-assoc (tabulate f a) (tabulate further b) (f (a + b) ∷ []) ∙ ap (λ (l : List A). tabulate f a ++ l) (sym (tabulate-last further b))
+      rw (z, tabulate-add a b) (append-assoc (tabulate f a) (tabulate (λ k. f (a + k)) b) (f (a + b) ∷ []))
 
   pub tabulate-split : (n k : ℕ) → k ≤ n → tabulate f n ≡ tabulate f k ++ tabulate (λ j. f (k + j)) (n - k)
   tabulate-split n k h = let z : k + (n - k) ≡ n = omega arith in rw z at (tabulate-add k (n - k))
@@ -117,7 +102,8 @@ module _ {A : Type 0} (f : ℕ → List A) where
   blocks-none = refl
 
   pub blocks-suc : (n : ℕ) → blocks f (suc n) ≡ blocks f n ++ f n
-  blocks-suc n = blocks-last f n
+  unfolding blocks
+  blocks-suc n = refl
 
   -- where no block is longer than most
   pub blocks-most : (most n : ℕ) → ((i : ℕ) → length (f i) ≤ most) → length (blocks f n) ≤ most * n
@@ -147,10 +133,7 @@ module _ {A : Type 0} (f : ℕ → List A) where
 pub blocks-ext : {A : Type 0} (f g : ℕ → List A) (n : ℕ) → ((i : ℕ) → i < n → f i ≡ g i) → blocks f n ≡ blocks g n
 unfolding blocks
 blocks-ext f g zero e = refl
-blocks-ext f g (suc n) e =
-    let f′ : ℕ → List _ = λ k. f (suc k) in
-    let g′ : ℕ → List _ = λ k. g (suc k) in
-    rw (e 0 (omega arith)) (ap (λ (l : List _). g 0 ++ l) (blocks-ext f′ g′ n (λ i h. e (suc i) (omega arith))))
+blocks-ext f g (suc n) e = rw (blocks-ext f g n (λ i h. e i (omega arith)), e n (omega arith))
 
 -- every place of a list of one element has it, past the end too where that is the default
 pub alike-at : {A : Type 0} (n i : ℕ) (x : A) → getD (replicate n x) i x ≡ x

@@ -10,7 +10,7 @@ use lib.Dec.{ltb}
 use Rattle.lists.specs.Search.{firstIn, outside}
 use Rattle.rules.specs.Table.{Path, pathsOf, listens}
 use Rattle.rules.specs.Refusals.{Refusal, refusedIf, refusedAt, _orElse_, refusal}
-use Rattle.rules.specs.Report.{numbersOf, report}
+use Rattle.rules.specs.Report.{Report, numbersOf, report}
 use Rattle.rules.specs.Machine.{Pair, heardFault, choiceBytes, step, movement}
 use Rattle.rules.specs.Run.{pairsIn, countsOf, run}
 
@@ -61,13 +61,17 @@ unfoldable pub verdictOf : ℕ → Verdict
 verdictOf zero = complete
 verdictOf (suc n) = stuck (suc n)
 
+-- what a report finds
+abbrev pub found : Report → Verdict
+found r = verdictOf (r .ringLength)
+
 -- the verdict of an entry: its refusal, or what it says of an accepted input
 unfoldable pub verdict : Option Refusal → Verdict → Verdict
 verdict none v = v
 verdict (some r) v = refused (r .number) (r .place)
 
 unfoldable pub checkVerdict : List ℕ → List ℕ → List ℕ → Verdict
-checkVerdict t rows ring = verdict (checkRefusal t rows ring) (verdictOf (report t .ringLength))
+checkVerdict t rows ring = verdict (checkRefusal t rows ring) (found (report t))
 
 -- "The counts are settled and stuck vertices (without vertex 0), s and L, all 0 when refused", after the ring's length
 unfoldable pub checkNumbers : List ℕ → List ℕ → List ℕ → List ℕ

@@ -38,12 +38,8 @@ table6 = ((1 ∷ 2 ∷ 0 ∷ []) ∷ []) ∷ []
 abbrev pub table7 : List (List Path)
 table7 = ((1 ∷ 0 ∷ []) ∷ []) ∷ ((2 ∷ 1 ∷ 0 ∷ []) ∷ (2 ∷ 0 ∷ []) ∷ []) ∷ ((3 ∷ 2 ∷ 0 ∷ []) ∷ []) ∷ []
 
--- Three stuck vertices, and a ring of two.
-abbrev pub threeStuck : List (List Path)
-threeStuck = ((1 ∷ 2 ∷ 0 ∷ []) ∷ []) ∷ ((2 ∷ 1 ∷ 0 ∷ []) ∷ []) ∷ ((3 ∷ 1 ∷ 0 ∷ []) ∷ []) ∷ []
-
--- Two rings, 4 5 10 and 2 3; the lowest stuck vertex, 1, lies on neither and meets its ring at 5; 63 would meet the other. 1 is stuck on
--- its path of rank 2, 6 is only named, 12 settles without a path though it owns one, and 13 to 62 are absent.
+-- Two rings, 4 5 10 and 2 3; the lowest stuck vertex, 1, lies on neither and meets its ring at 5; 62 would meet the other. 1 is stuck on
+-- its path of rank 2, 6 is only named, 12 settles without a path though it owns one, 63 settles alone, and 11 and 13 to 61 are absent.
 abbrev pub twoRings : List (List Path)
 twoRings =
     ((1 ∷ 6 ∷ 0 ∷ []) ∷ (1 ∷ 5 ∷ 0 ∷ []) ∷ [])
@@ -55,9 +51,9 @@ twoRings =
     ∷ ((8 ∷ 7 ∷ 0 ∷ []) ∷ [])
     ∷ ((9 ∷ 6 ∷ 5 ∷ 4 ∷ 3 ∷ 2 ∷ 1 ∷ 10 ∷ 0 ∷ []) ∷ (9 ∷ 8 ∷ 7 ∷ 0 ∷ []) ∷ [])
     ∷ ((10 ∷ 4 ∷ 0 ∷ []) ∷ (10 ∷ 0 ∷ []) ∷ [])
-    ∷ ((11 ∷ 9 ∷ 8 ∷ 7 ∷ 0 ∷ []) ∷ [])
     ∷ ((12 ∷ 6 ∷ 0 ∷ []) ∷ [])
-    ∷ ((63 ∷ 2 ∷ 0 ∷ []) ∷ (63 ∷ 0 ∷ []) ∷ [])
+    ∷ ((62 ∷ 2 ∷ 0 ∷ []) ∷ (62 ∷ 0 ∷ []) ∷ [])
+    ∷ ((63 ∷ 9 ∷ 8 ∷ 7 ∷ 0 ∷ []) ∷ [])
     ∷ []
 
 unfoldable pub checkExamples : List Example
@@ -84,8 +80,6 @@ checkExamples =
     ∷ (check (tableBytes table7) gives checked complete (0 ∷ 3 ∷ 0 ∷ 3 ∷ 2 ∷ [])
     (origin ++ shown 1 1 1 (1 ∷ 0 ∷ []) ++ shown 2 1 2 (2 ∷ 1 ∷ 0 ∷ []) ++ shown 3 0 0 [] ++ absent 60)
     (replicate 64 255))
-    -- vertex 63 alone
-    ∷ (check (tableBytes (((63 ∷ 0 ∷ []) ∷ []) ∷ [])) gives checked complete (0 ∷ 1 ∷ 0 ∷ 1 ∷ 1 ∷ []) (origin ++ absent 62 ++ shown 1 1 1 (63 ∷ 0 ∷ [])) (replicate 64 255))
     -- ring 3, settled 6, stuck 7, s 4, L 8
     ∷ (check (tableBytes twoRings) gives checked (stuck 3) (3 ∷ 6 ∷ 7 ∷ 4 ∷ 8 ∷ [])
     (origin
@@ -99,10 +93,11 @@ checkExamples =
     ++ shown 2 1 2 (8 ∷ 7 ∷ 0 ∷ [])
     ++ shown 3 2 3 (9 ∷ 8 ∷ 7 ∷ 0 ∷ [])
     ++ shown 255 1 2 (10 ∷ 4 ∷ 0 ∷ [])
-    ++ shown 4 1 4 (11 ∷ 9 ∷ 8 ∷ 7 ∷ 0 ∷ [])
+    ++ absent 1
     ++ shown 2 0 0 []
-    ++ absent 50
-    ++ shown 255 1 2 (63 ∷ 2 ∷ 0 ∷ []))
+    ++ absent 49
+    ++ shown 255 1 2 (62 ∷ 2 ∷ 0 ∷ [])
+    ++ shown 4 1 4 (63 ∷ 9 ∷ 8 ∷ 7 ∷ 0 ∷ []))
     (4 ∷ 5 ∷ 10 ∷ replicate 61 255))
     ∷ []
 

@@ -16,20 +16,13 @@ use Rattle.rules.specs.Refusals.{refusedIf, refusedAt, _orElse_, hopsBad
 use Rattle.rules.specs.Answers.{stuck, refused, otherLength, scheduleBad, firstBadPair, checkRefusal, stepRefusal, runRefusal, unless, verdictOf, verdict, checkVerdict, checkNumbers, rowsAfter, ringAfter, runNumbers}
 use Rattle.rules.specs.Entries.{codeOf, fourBytes, wordBytes, numberBytes, twosComplement, sumBytes, checkRefusalForC, stepRefusalForC, runRefusalForC, rowsForC, ringForC, checkNumbersForC, heardStepForC, stepNumbersForC, heardRunForC, sumsForC, runNumbersForC}
 use Rattle.rules.specs.TriedExamples.{Example, recordBytes, tableBytes, shown, origin, absent, lent, small, zeros, pair, checkCall, checkForC, stepForC, runForC, checkGave, gaveToC, _gives_, rawRecord, blockBytes, outcome, Works}
-use Rattle.rules.specs.CheckExamples.{table2, table7, threeStuck}
+use Rattle.rules.specs.CheckExamples.{table2, table7}
 use Rattle.rules.specs.RefusalExamples.{one, two}
 use Rattle.rules.specs.RunExamples.{inARow, oldNews, newNews, heardAt}
 
-abbrev pub threeRows : List ℕ
-threeRows =
-    origin
-    ++ shown 255 1 2 (1 ∷ 2 ∷ 0 ∷ [])
-    ++ shown 255 1 2 (2 ∷ 1 ∷ 0 ∷ [])
-    ++ shown 255 1 2 (3 ∷ 1 ∷ 0 ∷ [])
-    ++ absent 60
-
-abbrev pub threeRing : List ℕ
-threeRing = 1 ∷ 2 ∷ replicate 62 255
+-- more are stuck than the ring has, 63 among them
+abbrev pub threeStuck : List (List Path)
+threeStuck = ((1 ∷ 2 ∷ 0 ∷ []) ∷ []) ∷ ((2 ∷ 1 ∷ 0 ∷ []) ∷ []) ∷ ((63 ∷ 1 ∷ 0 ∷ []) ∷ []) ∷ []
 
 -- owners 1, 2, 1
 abbrev pub apart : List ℕ
@@ -38,7 +31,9 @@ apart = one ++ two ++ recordBytes 1 (1 ∷ 2 ∷ 0 ∷ [])
 unfoldable pub entryExamples : List Example
 entryExamples =
     -- the check's four answers, accepted; 1 for either buffer, before the table's numbers; and a refused table
-    (checkCall (tableBytes threeStuck) (lent 1024) (lent 64) gives checkGave (stuck 2) (2 ∷ 0 ∷ 3 ∷ 0 ∷ 2 ∷ []) threeRows threeRing)
+    (checkCall (tableBytes threeStuck) (lent 1024) (lent 64) gives checkGave (stuck 2) (2 ∷ 0 ∷ 3 ∷ 0 ∷ 2 ∷ [])
+    (origin ++ shown 255 1 2 (1 ∷ 2 ∷ 0 ∷ []) ++ shown 255 1 2 (2 ∷ 1 ∷ 0 ∷ []) ++ absent 60 ++ shown 255 1 2 (63 ∷ 1 ∷ 0 ∷ []))
+    (1 ∷ 2 ∷ replicate 62 255))
     ∷ (checkCall [] (lent 1023) (lent 64) gives checkGave (refused 1 0) (replicate 5 0) (lent 1023) (lent 64))
     ∷ (checkCall [] (lent 1025) (lent 64) gives checkGave (refused 1 0) (replicate 5 0) (lent 1025) (lent 64))
     ∷ (checkCall [] (lent 1024) (lent 63) gives checkGave (refused 1 0) (replicate 5 0) (lent 1024) (lent 63))
@@ -46,8 +41,8 @@ entryExamples =
     ∷ (checkCall (lent 17) (lent 1024) (lent 64) gives checkGave (refused 3 0) (replicate 5 0) (lent 1024) (lent 64))
     ∷ (checkCall apart (lent 1024) (lent 64) gives checkGave (refused 9 2) (replicate 5 0) (lent 1024) (lent 64))
     -- the check for C: code 0 and the five numbers as words; 1 for the buffer of numbers; 9 at record 2 is 9 + 2 * 256
-    ∷ (checkForC (tableBytes threeStuck) (lent 1024) (lent 64) (lent 32) gives gaveToC 0
-    (threeRows ∷ threeRing ∷ (small 2 ++ small 0 ++ small 3 ++ small 0 ++ small 2 ++ replicate 12 0) ∷ []))
+    ∷ (checkForC (tableBytes table2) (lent 1024) (lent 64) (lent 32) gives gaveToC 0
+    ((origin ++ shown 1 1 1 (1 ∷ 0 ∷ []) ++ absent 62) ∷ replicate 64 255 ∷ (small 0 ++ small 1 ++ small 0 ++ small 1 ++ small 1 ++ replicate 12 0) ∷ []))
     ∷ (checkForC [] (lent 1024) (lent 64) (lent 31) gives gaveToC 1 (lent 1024 ∷ lent 64 ∷ lent 31 ∷ []))
     ∷ (checkForC (lent 17) (lent 1024) (lent 64) (lent 33) gives gaveToC 1 (lent 1024 ∷ lent 64 ∷ lent 33 ∷ []))
     ∷ (checkForC [] (lent 1023) (lent 64) (lent 32) gives gaveToC 1 (lent 1023 ∷ lent 64 ∷ lent 32 ∷ []))

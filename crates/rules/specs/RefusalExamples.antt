@@ -11,7 +11,7 @@ use Rattle.rules.specs.Greedy.{isSettled, compatible, atStart, judged, s
 use Rattle.rules.specs.Report.{placeIn, rankIn, rowBytes, row, report}
 use Rattle.rules.specs.Refusals.{refusedIf, _orElse_, hopsBad, vertexBad, unusedOf, fillerBad, twiceBad, lastBad, ownerBad, rankDue, rankBad, pathBad, inRecord, rule, recordRules, firstBroken, fault, faulty, firstBad, tooLong, ragged, badRecord, refusal}
 use Rattle.rules.specs.Answers.{verdictOf}
-use Rattle.rules.specs.TriedExamples.{Example, recordBytes, rawRecord, tableBytes, check, refused, _gives_, checkedOf, unlessRefused, outcome, Works}
+use Rattle.rules.specs.TriedExamples.{Example, recordBytes, rawRecord, check, refused, _gives_, checkedOf, unlessRefused, outcome, Works}
 
 -- a record that keeps all rules, and the records of 1 and of 2 that go straight to 0
 abbrev pub one : List ℕ

@@ -24,12 +24,9 @@ use Rattle.rules.specs.CheckExamples.{table2, table3, table7}
 abbrev pub threePairs : List (List Path)
 threePairs = ((1 ∷ 0 ∷ []) ∷ []) ∷ ((2 ∷ 1 ∷ 0 ∷ []) ∷ (2 ∷ 0 ∷ []) ∷ []) ∷ []
 
--- Two pairs, (1,0) and (2,1); from zeros 6 steps, 2 ups, no down, last change 4, 3 rounds.
+-- Two pairs, (1,0) and (2,1).
 abbrev pub twoPairs : List (List Path)
 twoPairs = ((1 ∷ 0 ∷ []) ∷ []) ∷ ((2 ∷ 1 ∷ 0 ∷ []) ∷ []) ∷ []
-
-abbrev pub sixSteps : List ℕ
-sixSteps = 2 ∷ 1 ∷ 1 ∷ 0 ∷ 1 ∷ 0 ∷ 2 ∷ 1 ∷ 1 ∷ 0 ∷ 2 ∷ 1 ∷ []
 
 -- Three in a row, (1,0), (2,1) and (3,2); 1 has heard (0), and 3 a path that 2 no longer has. Then 3 hears 2, and 2 hears 1.
 abbrev pub inARow : List (List Path)

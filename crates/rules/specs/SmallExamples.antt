@@ -1,22 +1,22 @@
 -- Single definitions by their numbers: what no table above brings, bounds that only larger ones meet, and a table of 63 stages.
 use Prim.Native.Nat.{ℕ, zero, suc}
 use mathlib.Core.Path.{refl}
-use mathlib.Core.Bool.{Bool, true, false}
+use mathlib.Core.Bool.{true, false}
 use mathlib.Core.List.{List, [], _∷_, _++_}
 use lib.ListN.{replicate}
 use lib.IntN.{pos, negsuc}
 use lib.Dec.{eqb, ltb}
-use Rattle.lists.specs.Search.{outside, firstFrom, anyBelow, thoseBelow, anyIn, firstIn, elem, twice, same}
+use Rattle.lists.specs.Search.{outside, firstFrom, anyBelow, thoseBelow, anyIn, firstIn, elem, twice, same, maxBelow}
 use Rattle.lists.specs.Fill.{tabulate, blocks, padded}
 use Rattle.lists.specs.Fold.{foldLeft}
-use Rattle.rules.specs.Table.{Path, slotsOf, nextHop, recordAt, records, rankOf, hopsOf, pathOf, ownerOf, owned, pathsBelow, pathsOf, present, rest, first, listens, listensAt}
-use Rattle.rules.specs.Greedy.{stageOf, lowestOf, ringFrom, isSettled, compatible, atStart, judged, best, stage, stagesFrom, stagesUntil, fromVertex, beforeVertex, closedPart, turned}
+use Rattle.rules.specs.Table.{Path, slotsOf, nextHop, recordAt, records, rankOf, hopsOf, pathOf, ownerOf, owned, pathsBelow, pathsOf, present, rest, first, listens, listensAt, longest}
+use Rattle.rules.specs.Greedy.{stageOf, lowestOf, ringFrom, isSettled, compatible, atStart, judged, best, stage, stagesFrom, stagesUntil, fromVertex, beforeVertex, closedPart, turned, settledList, settled}
 use Rattle.rules.specs.Stable.{extends, bestGiven}
 use Rattle.rules.specs.Report.{rowBytes, rowAt, vertices, pathShown, placeIn, rankIn, row}
 use Rattle.rules.specs.Machine.{lastHeard, offsetOf, standingOf, badAt, speaks, byteFor, pathFor, badByte, heardFault, choice, choiceBytes, step, standing, movement}
 use Rattle.rules.specs.Run.{countsOf, listeningOffsets, run, pairsIn, isUp, isDown, more, offsetsOf, closes, begun, activated}
 use Rattle.rules.specs.Refusals.{refusedIf, refusedAt, _orElse_, hopsBad, vertexBad, unusedOf, fillerBad, twiceBad, lastBad, ownerBad, rankDue, rankBad, pathBad, inRecord, rule, recordRules, firstBroken, fault, faulty, firstBad, tooLong, ragged, badRecord, refusal}
-use Rattle.rules.specs.Answers.{choicesIn, runRefusal, otherLength, scheduleBad, firstBadPair, unless}
+use Rattle.rules.specs.Answers.{choicesIn, runRefusal, otherLength, scheduleBad, firstBadPair, unless, verdict}
 use Rattle.rules.specs.Text.{codes, decimal, placeWords, verdictLine, rowLines, digitsIn, labelled, spaced, routeWords, stageWords, rowPath, rowLine}
 use Rattle.rules.specs.RunText.{signed, runLine}
 use Rattle.rules.specs.Entries.{codeOf, fourBytes, sumBytes, wordBytes, twosComplement}
@@ -27,10 +27,6 @@ use Rattle.rules.specs.CheckExamples.{table3, table7}
 unfoldable pub flat : List (List ℕ) → List ℕ
 flat [] = []
 flat (l ∷ ls) = l ++ flat ls
-
--- each vertex but 63 has one path, over the vertex above it: 63 settles first, and each stage shuts out the next path
-abbrev pub oneAfterAnother : ℕ → List Path
-oneAfterAnother v = elim (eqb v 63) [ true ↦ [] | false ↦ (v ∷ suc v ∷ 0 ∷ []) ∷ [] ]
 
 -- a path of twelve hops
 abbrev pub longPath : Path
@@ -53,8 +49,8 @@ unfoldable pub smallExamples : List Example
 smallExamples =
     -- the slots of the first three records of table 3: 1 owns two, 2 one
     (alone (flat (slotsOf (tableBytes table3) 3)) gives counts (replicate 16 65535 ++ 0 ∷ 1 ∷ replicate 14 65535 ++ 2 ∷ replicate 15 65535 ++ replicate 976 65535))
-    -- "The stage count s is 0 to 63": vertex 1 settles at stage 63
-    ∷ (alone (stageOf oneAfterAnother (λ v. true) 1 ∷ []) gives counts (63 ∷ []))
+    -- stages are counted up to 64, which is more than any test needs
+    ∷ (alone (stagesUntil (λ v. []) (λ v. false) (λ S. false) ∷ []) gives counts (64 ∷ []))
     -- a walk through 64 vertices; the lowest of a ring; no ring, no path
     ∷ (alone (ringFrom (λ v. eqb v 63) around) gives counts (rising 64 0))
     ∷ (alone (lowestOf (63 ∷ []) ∷ lowestOf [] ∷ nextHop [] ∷ []) gives counts (63 ∷ 0 ∷ 0 ∷ []))
@@ -73,6 +69,8 @@ smallExamples =
     -- a row of twelve hops, and the line of vertex 63
     ∷ (alone (rowBytes 255 16 longPath) gives counts (255 ∷ 16 ∷ 12 ∷ longPath))
     ∷ (alone (rowLines (origin ++ absent 62 ++ shown 255 16 12 longPath) 63) gives counts (codes "63 stuck rank 16 path 63 1 2 3 4 5 6 7 8 9 10 11 0\n"))
+    -- "A settled vertex without a path prints as `1 stage 2 none`."
+    ∷ (alone (rowLine 1 (shown 2 0 0 [])) gives counts (codes "1 stage 2 none\n"))
     -- what a row shows: the path, or none; the row of a vertex
     ∷ (alone (pathShown (shown 1 2 3 (4 ∷ 5 ∷ 6 ∷ 0 ∷ [])) ++ pathShown (shown 1 0 0 []) ++ vertices (7 ∷ 255 ∷ 8 ∷ [])) gives counts (4 ∷ 5 ∷ 6 ∷ 0 ∷ 7 ∷ []))
     ∷ (alone (rowAt (rising 48 0) 1) gives counts (rising 16 16))
@@ -90,15 +88,15 @@ smallExamples =
     ∷ []
 
 pub worked-small : Works smallExamples
-unfolding outside firstFrom anyBelow thoseBelow anyIn firstIn elem twice same tabulate blocks padded foldLeft recordAt
-    records rankOf hopsOf pathOf ownerOf owned pathsBelow pathsOf slotsOf present nextHop rest first listens listensAt
-    isSettled compatible atStart judged best stage stagesFrom stagesUntil stageOf fromVertex beforeVertex closedPart
-    lowestOf turned ringFrom extends bestGiven placeIn rankIn rowBytes row rowAt vertices pathShown offsetOf
-    standingOf badAt speaks byteFor pathFor badByte heardFault lastHeard choice choiceBytes step standing movement
-    pairsIn isUp isDown more offsetsOf listeningOffsets closes begun activated run refusedIf refusedAt _orElse_
-    hopsBad vertexBad unusedOf fillerBad twiceBad lastBad ownerBad rankDue rankBad pathBad inRecord rule recordRules
-    firstBroken fault faulty firstBad tooLong ragged badRecord refusal otherLength scheduleBad firstBadPair runRefusal
-    unless choicesIn codes digitsIn decimal labelled spaced routeWords placeWords verdictLine stageWords rowPath rowLine rowLines
-    signed runLine codeOf fourBytes wordBytes twosComplement sumBytes rawRecord recordBytes blockBytes tableBytes shown absent
-    outcome flat rising smallExamples
+unfolding outside firstFrom anyBelow thoseBelow anyIn firstIn elem twice same maxBelow tabulate blocks padded foldLeft
+    recordAt records rankOf hopsOf pathOf ownerOf owned pathsBelow pathsOf slotsOf present longest nextHop rest first
+    listens listensAt isSettled compatible atStart judged best stage settledList settled stagesFrom stagesUntil
+    stageOf fromVertex beforeVertex closedPart lowestOf turned ringFrom extends bestGiven placeIn rankIn rowBytes row
+    rowAt vertices pathShown offsetOf standingOf badAt speaks byteFor pathFor badByte heardFault lastHeard choice
+    choiceBytes step standing movement pairsIn isUp isDown more offsetsOf listeningOffsets closes begun activated run
+    refusedIf refusedAt _orElse_ hopsBad vertexBad unusedOf fillerBad twiceBad lastBad ownerBad rankDue rankBad
+    pathBad inRecord rule recordRules firstBroken fault faulty firstBad tooLong ragged badRecord refusal otherLength
+    scheduleBad firstBadPair runRefusal unless verdict choicesIn codes digitsIn decimal labelled spaced routeWords
+    placeWords verdictLine stageWords rowPath rowLine rowLines signed runLine codeOf fourBytes wordBytes
+    twosComplement sumBytes rawRecord recordBytes blockBytes tableBytes shown absent outcome flat rising smallExamples
 worked-small = record { works = refl }

@@ -12,7 +12,7 @@ use Rattle.lists.specs.Search.{outside}
 use Rattle.lists.specs.Fill.{blocks}
 use Rattle.rules.specs.Refusals.{refusal}
 use Rattle.rules.specs.Report.{rowAt, numbersOf, report}
-use Rattle.rules.specs.Answers.{Verdict, complete, stuck, refused, verdictOf, verdict}
+use Rattle.rules.specs.Answers.{Verdict, complete, stuck, refused, found, verdict}
 
 -- a text's letters as bytes
 unfoldable pub codes : String → List ℕ
@@ -107,7 +107,7 @@ textOf (refused n k) numbers rows ring = refusedLine n k
 unfoldable pub checkText : List ℕ → List ℕ
 checkText t =
     let r = report t in
-    textOf (verdict (refusal t) (verdictOf (r .ringLength)))
+    textOf (verdict (refusal t) (found r))
     (numbersOf r)
     (r .rows)
     (r .ring)

@@ -16,9 +16,9 @@ use Rattle.rules.specs.Answers.{otherLength, scheduleBad, firstBadPair, 
 use Rattle.rules.specs.Text.{codes, digitsIn, decimal, labelled, spaced, routeWords, placeWords, refusedLine, verdictLine, stageWords, rowPath, rowLine, rowLines, ringLine, textOf, checkText}
 use Rattle.rules.specs.RunText.{signed, runLine, vertexLine, vertexLines, runTextOf, ranLine, runText, ranText}
 use Rattle.rules.specs.TriedExamples.{Example, recordBytes, tableBytes, checkPrints, runPrints, printedAs, _gives_, rawRecord, blockBytes, outcome, Works}
-use Rattle.rules.specs.CheckExamples.{table5, table6, threeStuck}
+use Rattle.rules.specs.CheckExamples.{table5}
 use Rattle.rules.specs.RefusalExamples.{one, two}
-use Rattle.rules.specs.RunExamples.{twoPairs, sixSteps}
+use Rattle.rules.specs.RunExamples.{twoPairs}
 
 unfoldable pub textExamples : List Example
 textExamples =
@@ -26,18 +26,12 @@ textExamples =
     (checkPrints [] gives printedAs "verdict complete settled 0 stuck 0 stages 0 longest 0\n")
     -- "For table 5 it prints exactly"
     ∷ (checkPrints (tableBytes table5) gives printedAs "verdict stuck settled 1 stuck 2 stages 1 longest 2\n1 stage 1 rank 1 path 1 0\n2 stuck rank 1 path 2 3 0\n3 stuck rank 1 path 3 2 0\nring 2 3\n")
-    -- Table 6: "A settled vertex without a path prints as `1 stage 2 none`."
-    ∷ (checkPrints (tableBytes table6) gives printedAs "verdict complete settled 2 stuck 0 stages 2 longest 2\n1 stage 2 none\n2 stage 1 none\n")
-    -- more are stuck than the ring has
-    ∷ (checkPrints (tableBytes threeStuck) gives printedAs "verdict stuck settled 0 stuck 3 stages 0 longest 2\n1 stuck rank 1 path 1 2 0\n2 stuck rank 1 path 2 1 0\n3 stuck rank 1 path 3 1 0\nring 1 2\n")
     -- "A refusal prints `refused 9 record 2`": owners 1, 2, 1
     ∷ (checkPrints (one ++ two ++ recordBytes 1 (1 ∷ 2 ∷ 0 ∷ [])) gives printedAs "refused 9 record 2\n")
     -- "or `refused 3` for 1 to 3": 17 bytes
     ∷ (checkPrints (replicate 17 0) gives printedAs "refused 3\n")
-    -- a run from zeros, all numbers different
-    ∷ (runPrints (tableBytes twoPairs) sixSteps gives printedAs "run steps 6 ups 2 downs 0 last 4 rounds 3\n1 sum 16 rank 1 path 1 0\n2 sum 16 rank 1 path 2 1 0\n")
-    -- vertex 63, and one that is only named
-    ∷ (runPrints (tableBytes (((63 ∷ 62 ∷ 0 ∷ []) ∷ []) ∷ [])) [] gives printedAs "run steps 0 ups 0 downs 0 last 0 rounds 0\n62 sum 0 none\n63 sum 0 none\n")
+    -- a run from zeros: a line for each present vertex, 63 and one that is only named among them
+    ∷ (runPrints (tableBytes (((1 ∷ 0 ∷ []) ∷ []) ∷ ((63 ∷ 1 ∷ 0 ∷ []) ∷ (63 ∷ 62 ∷ 0 ∷ []) ∷ []) ∷ [])) (1 ∷ 0 ∷ 63 ∷ 1 ∷ []) gives printedAs "run steps 2 ups 2 downs 0 last 2 rounds 0\n1 sum 16 rank 1 path 1 0\n62 sum 0 none\n63 sum 16 rank 1 path 63 1 0\n")
     -- "14: pair is not a listening pair", the third of them; "13: schedule length odd"; the table's refusal, as the check prints it
     ∷ (runPrints (tableBytes twoPairs) (2 ∷ 1 ∷ 1 ∷ 0 ∷ 2 ∷ 0 ∷ []) gives printedAs "refused 14 pair 2\n")
     ∷ (runPrints [] (2 ∷ 0 ∷ 3 ∷ []) gives printedAs "refused 13\n")

@@ -3,6 +3,7 @@
 use Prim.Native.Nat.{ℕ, zero, suc, pred, _-_}
 use Prim.Native.String.{String}
 use mathlib.Core.Path.{_≡_}
+use mathlib.Core.Path.{_≡_}
 use mathlib.Core.List.{List, [], _∷_, _++_, map}
 use mathlib.Core.Option.{Option, none, some}
 use lib.ListN.{length, replicate}
@@ -12,7 +13,7 @@ use Rattle.rules.specs.Refusals.{Refusal, refusal}
 use Rattle.rules.specs.Report.{Report, numbersOf, report}
 use Rattle.rules.specs.Machine.{Pair, step, movement}
 use Rattle.rules.specs.Run.{Tally, countsOf, pairsIn, run}
-use Rattle.rules.specs.Answers.{Verdict, verdictOf, checkRefusal, checkVerdict, checkNumbers, rowsAfter, ringAfter, stepRefusal, stepMovement, heardAfterStep, runRefusal, runNumbers, heardAfterRun, sumsAfterRun}
+use Rattle.rules.specs.Answers.{Verdict, found, checkVerdict, checkNumbers, rowsAfter, ringAfter, stepRefusal, stepMovement, heardAfterStep, runRefusal, runNumbers, heardAfterRun, sumsAfterRun}
 use Rattle.rules.specs.Entries.{codeOf, checkRefusalForC, rowsForC, ringForC, checkNumbersForC, stepRefusalForC, heardStepForC, stepNumbersForC, runRefusalForC, heardRunForC, sumsForC, runNumbersForC}
 use Rattle.rules.specs.Text.{codes, checkText}
 use Rattle.rules.specs.RunText.{ranText}
@@ -101,7 +102,7 @@ pub data Outcome : Type 0 where
   counts : List ℕ → Outcome
 
 unfoldable pub checkedOf : Report → Outcome
-checkedOf r = checked (verdictOf (r .ringLength)) (numbersOf r) (r .rows) (r .ring)
+checkedOf r = checked (found r) (numbersOf r) (r .rows) (r .ring)
 
 unfoldable pub movements : (ℕ → List Path) → List ℕ → List Pair → List ℤ
 movements paths heard [] = []
