@@ -17,6 +17,8 @@ from typing import NamedTuple
 
 ROOT = Path(__file__).resolve().parent.parent
 LOGS = ROOT / ".build" / "log"
+# rt tries so many edits at a time and waits for all of them; more than there are processors leave none of these idle meanwhile.
+RT_JOBS = 6
 COUNTS = re.compile(r"(\d+) passed, (\d+) failed")
 # How the prover names what fails: at a proof file, and at a function that has none.
 COMPLAINT = re.compile(r"\berror[:\[]|it is not proved that")
@@ -243,7 +245,7 @@ def first_words(why):
 def parts():
     """Each part's name, and the function that runs and judges it."""
     yield "tools", install_tools
-    yield "rt ci", lambda: judge_rt_ci(*run("rt-ci", ["rt", "ci"]))
+    yield "rt ci", lambda: judge_rt_ci(*run("rt-ci", ["env", f"RT_JOBS={RT_JOBS}", "rt", "ci"]))
     yield "formatting", lambda: judge_formatting(*run("formatting", ["rt", "fmt", "--check"]))
     yield "must-fail logs", lambda: judge_edits(ROOT)
     yield "contracts", lambda: judge_contracts(ROOT)

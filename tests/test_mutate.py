@@ -16,7 +16,7 @@ import mutate
 from test_gate import Folder
 
 # What the gate tries of all changes: about a minute on two processors.
-SAMPLE = 80
+SAMPLE = 50
 SEED = 64
 
 # One definition or more for each kind of change.
@@ -224,7 +224,7 @@ class Stages(Folder):
         lines = (specs / "Lib.antt").read_text().split("\n")
         self.assertIn("pub mod Examples", lines)
         self.assertNotIn("pub mod TextExamples", lines)
-        self.examples.show({"Examples", "TextExamples"})
+        self.examples.show({*self.examples.texts})
         self.assertTrue((specs / "TextExamples.antt").exists())
         self.assertEqual((specs / "Lib.antt").read_text(), self.examples.lib)
 
