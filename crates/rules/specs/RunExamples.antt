@@ -20,9 +20,13 @@ use Rattle.rules.specs.TriedExamples.{Example, tableBytes, zeros, pair, 
 use Rattle.rules.specs.CheckExamples.{table2, table3, table7}
 
 -- Three pairs, (1,0), (2,0) and (2,1), where 2 has heard (1 0) and nobody anything else. In the schedule 2 loses its path and finds it again,
--- and the fourth step stores another byte and changes no choice.
+-- and the fifth step stores another byte and changes no choice.
 abbrev pub threePairs : List (List Path)
 threePairs = ((1 ∷ 0 ∷ []) ∷ []) ∷ ((2 ∷ 1 ∷ 0 ∷ []) ∷ (2 ∷ 0 ∷ []) ∷ []) ∷ []
+
+abbrev pub threeRounds : List ℕ
+threeRounds =
+    2 ∷ 1 ∷ 2 ∷ 1 ∷ 1 ∷ 0 ∷ 2 ∷ 1 ∷ 2 ∷ 0 ∷ 1 ∷ 0 ∷ 2 ∷ 0 ∷ 2 ∷ 1 ∷ 1 ∷ 0 ∷ 2 ∷ 0 ∷ 2 ∷ 1 ∷ []
 
 -- Two pairs, (1,0) and (2,1).
 abbrev pub twoPairs : List (List Path)
@@ -57,10 +61,10 @@ runExamples =
     (5 ∷ 4 ∷ 1 ∷ 5 ∷ 1 ∷ [])
     (replicate 64 0 ++ 1 ∷ replicate 63 0 ++ 1 ∷ 1 ∷ replicate 64 0 ++ 1 ∷ replicate 3901 0)
     (sums3 (pos 16) (pos 16) (pos 0)))
-    -- From a leftover: the last change comes before the last byte that changes.
-    ∷ (runs (tableBytes threePairs) (heardAt 129 1) (2 ∷ 1 ∷ 1 ∷ 0 ∷ 2 ∷ 1 ∷ 2 ∷ 0 ∷ 1 ∷ 0 ∷ 2 ∷ 0 ∷ 2 ∷ 1 ∷ []) gives ran
-    (negsuc 15 ∷ pos 16 ∷ pos 16 ∷ replicate 4 (pos 0))
-    (7 ∷ 2 ∷ 1 ∷ 3 ∷ 2 ∷ [])
+    -- From a leftover, all numbers different: the last change comes before the last byte that changes.
+    ∷ (runs (tableBytes threePairs) (heardAt 129 1) threeRounds gives ran
+    (negsuc 15 ∷ pos 0 ∷ pos 16 ∷ pos 16 ∷ replicate 7 (pos 0))
+    (11 ∷ 2 ∷ 1 ∷ 4 ∷ 3 ∷ [])
     (replicate 64 0 ++ 1 ∷ replicate 63 0 ++ 1 ∷ 1 ∷ replicate 3966 0)
     (sums3 (pos 16) (pos 0) (pos 0)))
     -- Table 2 from zeros, its one pair twice: the second step changes nothing, and each step closes a round.
