@@ -16,7 +16,7 @@ use Rattle.rules.specs.Refusals.{refusedIf, refusedAt, _orElse_, hopsBad
 use Rattle.rules.specs.Answers.{stuck, refused, otherLength, scheduleBad, firstBadPair, checkRefusal, stepRefusal, runRefusal, unless, verdictOf, verdict, checkVerdict, checkNumbers, rowsAfter, ringAfter, runNumbers}
 use Rattle.rules.specs.Entries.{codeOf, fourBytes, wordBytes, numberBytes, twosComplement, sumBytes, checkRefusalForC, stepRefusalForC, runRefusalForC, rowsForC, ringForC, checkNumbersForC, heardStepForC, stepNumbersForC, heardRunForC, sumsForC, runNumbersForC}
 use Rattle.rules.specs.TriedExamples.{Example, recordBytes, tableBytes, shown, origin, absent, lent, small, zeros, pair, checkCall, checkForC, stepForC, runForC, checkGave, gaveToC, _gives_, rawRecord, blockBytes, outcome, Works}
-use Rattle.rules.specs.CheckExamples.{table2, table7}
+use Rattle.rules.specs.CheckExamples.{table2, table3, table7}
 use Rattle.rules.specs.RefusalExamples.{one, two}
 use Rattle.rules.specs.RunExamples.{inARow, oldNews, newNews, heardAt}
 
@@ -41,8 +41,11 @@ entryExamples =
     ∷ (checkCall (lent 17) (lent 1024) (lent 64) gives checkGave (refused 3 0) (replicate 5 0) (lent 1024) (lent 64))
     ∷ (checkCall apart (lent 1024) (lent 64) gives checkGave (refused 9 2) (replicate 5 0) (lent 1024) (lent 64))
     -- the check for C: code 0 and the five numbers as words; 1 for the buffer of numbers; 9 at record 2 is 9 + 2 * 256
-    ∷ (checkForC (tableBytes table2) (lent 1024) (lent 64) (lent 32) gives gaveToC 0
-    ((origin ++ shown 1 1 1 (1 ∷ 0 ∷ []) ++ absent 62) ∷ replicate 64 255 ∷ (small 0 ++ small 1 ++ small 0 ++ small 1 ++ small 1 ++ replicate 12 0) ∷ []))
+    ∷ (checkForC (tableBytes table3) (lent 1024) (lent 64) (lent 32) gives gaveToC 0
+    ((origin ++ shown 255 1 2 (1 ∷ 2 ∷ 0 ∷ []) ++ shown 255 1 2 (2 ∷ 1 ∷ 0 ∷ []) ++ absent 61)
+    ∷ (1 ∷ 2 ∷ replicate 62 255)
+    ∷ (small 2 ++ small 0 ++ small 2 ++ small 0 ++ small 2 ++ replicate 12 0)
+    ∷ []))
     ∷ (checkForC [] (lent 1024) (lent 64) (lent 31) gives gaveToC 1 (lent 1024 ∷ lent 64 ∷ lent 31 ∷ []))
     ∷ (checkForC (lent 17) (lent 1024) (lent 64) (lent 33) gives gaveToC 1 (lent 1024 ∷ lent 64 ∷ lent 33 ∷ []))
     ∷ (checkForC [] (lent 1023) (lent 64) (lent 32) gives gaveToC 1 (lent 1023 ∷ lent 64 ∷ lent 32 ∷ []))

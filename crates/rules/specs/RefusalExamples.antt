@@ -44,8 +44,9 @@ refusalExamples =
     ∷ (check (one ++ rawRecord 1 2 (2 ∷ 64 ∷ 0 ∷ [])) gives refused 5 1)
     ∷ (check (one ++ rawRecord 1 2 (2 ∷ 1 ∷ 64 ∷ [])) gives refused 5 1)
     ∷ (check (one ++ rawRecord 1 1 (63 ∷ 0 ∷ []) ++ one) gives refused 9 2)
-    -- 6: the byte after the vertices, byte 14, byte 15; 254 is no filler
+    -- 6: the byte after the vertices, byte 14, byte 15; 254 and 256 are no fillers
     ∷ (check (one ++ rawRecord 1 1 (2 ∷ 0 ∷ 254 ∷ [])) gives refused 6 1)
+    ∷ (check (one ++ rawRecord 1 1 (2 ∷ 0 ∷ 256 ∷ [])) gives refused 6 1)
     ∷ (check (one ++ 1 ∷ 1 ∷ 2 ∷ 0 ∷ replicate 10 255 ++ 0 ∷ 0 ∷ []) gives refused 6 1)
     ∷ (check (one ++ 1 ∷ 1 ∷ 2 ∷ 0 ∷ replicate 11 255 ++ 1 ∷ []) gives refused 6 1)
     ∷ (check (one ++ 1 ∷ 12 ∷ twelve ++ 0 ∷ 255 ∷ []) gives refused 6 1)

@@ -80,7 +80,7 @@ runExamples =
     ∷ (runs [] (heardAt 4095 1) [] gives refused 12 4095)
     ∷ (runs (tableBytes table7) (heardAt 194 3) (1 ∷ []) gives refused 12 194)
     ∷ (runs (tableBytes table2) (heardAt 64 1) (0 ∷ 0 ∷ 1 ∷ []) gives refused 13 0)
-    ∷ (runs (tableBytes table2) (heardAt 64 2) [] gives refused 12 64)
+    ∷ (runs (tableBytes table7) (heardAt 64 2) [] gives refused 12 64)
     -- 14: the first of two pairs that do not listen, and nothing changes; numbers above 63, whose offset is that of a listening pair
     ∷ (runCall (tableBytes table2) zeros (1 ∷ 0 ∷ 1 ∷ 1 ∷ 1 ∷ 0 ∷ 2 ∷ 0 ∷ 1 ∷ 0 ∷ []) (lentSums 64) gives runGave (at 14 1) (replicate 5 0) zeros (lentSums 64))
     ∷ (runs (tableBytes table2) zeros (1 ∷ 0 ∷ 0 ∷ 64 ∷ []) gives refused 14 1)

@@ -3,6 +3,7 @@ use Prim.Native.Nat.{ℕ, zero, suc}
 use mathlib.Core.Path.{refl}
 use mathlib.Core.Bool.{true, false}
 use mathlib.Core.List.{List, [], _∷_, _++_}
+use mathlib.Core.Option.{none}
 use lib.ListN.{replicate}
 use lib.IntN.{pos, negsuc}
 use lib.Dec.{eqb, ltb}
@@ -10,7 +11,7 @@ use Rattle.lists.specs.Search.{outside, firstFrom, anyBelow, thoseBelow, anyIn,
 use Rattle.lists.specs.Fill.{tabulate, blocks, padded}
 use Rattle.lists.specs.Fold.{foldLeft}
 use Rattle.rules.specs.Table.{Path, slotsOf, nextHop, recordAt, records, rankOf, hopsOf, pathOf, ownerOf, owned, pathsBelow, pathsOf, present, rest, first, listens, listensAt, longest}
-use Rattle.rules.specs.Greedy.{stageOf, lowestOf, ringFrom, isSettled, compatible, atStart, judged, best, stage, stagesFrom, stagesUntil, fromVertex, beforeVertex, closedPart, turned, settledList, settled}
+use Rattle.rules.specs.Greedy.{stageOf, lowestOf, ringFrom, isSettled, compatible, atStart, judged, best, stage, stagesFrom, stagesUntil, fromVertex, beforeVertex, closedPart, turned, settledList, settled, isQuiet, enters}
 use Rattle.rules.specs.Stable.{extends, bestGiven}
 use Rattle.rules.specs.Report.{rowBytes, rowAt, vertices, pathShown, placeIn, rankIn, row}
 use Rattle.rules.specs.Machine.{lastHeard, offsetOf, standingOf, badAt, speaks, byteFor, pathFor, badByte, heardFault, choice, choiceBytes, step, standing, movement}
@@ -36,9 +37,9 @@ longPath = 63 ∷ 1 ∷ 2 ∷ 3 ∷ 4 ∷ 5 ∷ 6 ∷ 7 ∷ 8 ∷ 9 ∷ 10 ∷ 1
 abbrev pub lastOnes : ℕ → List Path
 lastOnes v = elim (ltb v 63) [ true ↦ [] | false ↦ (v ∷ 63 ∷ 0 ∷ []) ∷ (v ∷ 0 ∷ []) ∷ [] ]
 
--- the vertex after v, of 64 in a circle
-abbrev pub around : ℕ → ℕ
-around v = elim (eqb v 63) [ true ↦ 0 | false ↦ suc v ]
+-- the vertex after v, in a circle of those from 0 to last
+abbrev pub around : ℕ → ℕ → ℕ
+around last v = elim (eqb v last) [ true ↦ 0 | false ↦ suc v ]
 
 -- the numbers from i on, n of them
 unfoldable pub rising : ℕ → ℕ → List ℕ
@@ -51,14 +52,20 @@ smallExamples =
     (alone (flat (slotsOf (tableBytes table3) 3)) gives counts (replicate 16 65535 ++ 0 ∷ 1 ∷ replicate 14 65535 ++ 2 ∷ replicate 15 65535 ++ replicate 976 65535))
     -- stages are counted up to 64, which is more than any test needs
     ∷ (alone (stagesUntil (λ v. []) (λ v. false) (λ S. false) ∷ []) gives counts (64 ∷ []))
-    -- a walk through 64 vertices; the lowest of a ring; no ring, no path
-    ∷ (alone (ringFrom (λ v. eqb v 63) around) gives counts (rising 64 0))
-    ∷ (alone (lowestOf (63 ∷ []) ∷ lowestOf [] ∷ nextHop [] ∷ []) gives counts (63 ∷ 0 ∷ 0 ∷ []))
+    -- vertex 64 is none: it neither settles nor enters, and no ring begins or lies there
+    ∷ (alone (more (isSettled (settled (λ v. []) (λ v. true) 1 64)) 0 ∷ more (isQuiet (λ v. []) (λ v. eqb v 64) (λ v. none)) 0 ∷ stagesFrom (λ v. []) (λ v. true) (λ S. isSettled (S 64)) 2 [] ∷ []) gives counts (0 ∷ 1 ∷ 2 ∷ []))
+    ∷ (alone (lowestOf (63 ∷ []) ∷ lowestOf (64 ∷ []) ∷ ringFrom (λ v. eqb v 64) (λ v. v)) gives counts (63 ∷ 0 ∷ []))
+    -- a walk through 64 vertices closes, one through 65 does not; a walk from vertex 0; no ring, no path
+    ∷ (alone (ringFrom (λ v. eqb v 63) (around 63)) gives counts (rising 64 0))
+    ∷ (alone (ringFrom (λ v. eqb v 0) (around 64) ++ ringFrom (λ v. eqb v 0) (λ v. v)) gives counts (0 ∷ []))
+    ∷ (alone (lowestOf [] ∷ nextHop [] ∷ []) gives counts (0 ∷ 0 ∷ []))
+    -- a path on which nobody is settled is not compatible; what a short record lacks is 0
+    ∷ (alone (more (compatible (λ v. none) (1 ∷ [])) 0 ∷ more (fillerBad (1 ∷ 1 ∷ 1 ∷ 0 ∷ [])) 0 ∷ more (lastBad (1 ∷ 5 ∷ [])) 0 ∷ []) gives counts (0 ∷ 0 ∷ 0 ∷ []))
     -- the choices of all 64, 0 among them, where 2 has heard (0) and 3 has heard (2 0); and of a refused table
     ∷ (alone (choicesIn (tableBytes table7) (replicate 128 0 ++ 1 ∷ replicate 65 0 ++ 2 ∷ [])) gives counts (1 ∷ 0 ∷ 2 ∷ 1 ∷ replicate 60 0))
     ∷ (alone (choicesIn (0 ∷ []) (replicate 4096 0)) gives counts (replicate 64 0))
-    -- nothing is heard from a vertex above 63, though its byte would be another's
-    ∷ (alone (lastHeard lastOnes (replicate 256 1) 1 64 ++ lastHeard lastOnes (replicate 256 1) 1 63) gives counts (63 ∷ 63 ∷ 0 ∷ []))
+    -- nothing is heard from a vertex above 63, though its byte would be another's, nor past the end of the state
+    ∷ (alone (lastHeard lastOnes (replicate 256 1) 1 64 ++ lastHeard lastOnes [] 1 63 ++ lastHeard lastOnes (replicate 256 1) 1 63) gives counts (63 ∷ 63 ∷ 0 ∷ []))
     -- the listening pairs among 4,096
     ∷ (alone (listeningOffsets lastOnes) gives counts (4032 ∷ 4095 ∷ []))
     -- with no listening pair no step closes a round; the order of a run's numbers
@@ -90,13 +97,14 @@ smallExamples =
 pub worked-small : Works smallExamples
 unfolding outside firstFrom anyBelow thoseBelow anyIn firstIn elem twice same maxBelow tabulate blocks padded foldLeft
     recordAt records rankOf hopsOf pathOf ownerOf owned pathsBelow pathsOf slotsOf present longest nextHop rest first
-    listens listensAt isSettled compatible atStart judged best stage settledList settled stagesFrom stagesUntil
-    stageOf fromVertex beforeVertex closedPart lowestOf turned ringFrom extends bestGiven placeIn rankIn rowBytes row
-    rowAt vertices pathShown offsetOf standingOf badAt speaks byteFor pathFor badByte heardFault lastHeard choice
-    choiceBytes step standing movement pairsIn isUp isDown more offsetsOf listeningOffsets closes begun activated run
-    refusedIf refusedAt _orElse_ hopsBad vertexBad unusedOf fillerBad twiceBad lastBad ownerBad rankDue rankBad
-    pathBad inRecord rule recordRules firstBroken fault faulty firstBad tooLong ragged badRecord refusal otherLength
-    scheduleBad firstBadPair runRefusal unless verdict choicesIn codes digitsIn decimal labelled spaced routeWords
-    placeWords verdictLine stageWords rowPath rowLine rowLines signed runLine codeOf fourBytes wordBytes
-    twosComplement sumBytes rawRecord recordBytes blockBytes tableBytes shown absent outcome flat rising smallExamples
+    listens listensAt isSettled compatible atStart judged best stage settledList settled enters isQuiet stagesFrom
+    stagesUntil stageOf fromVertex beforeVertex closedPart lowestOf turned ringFrom extends bestGiven placeIn rankIn
+    rowBytes row rowAt vertices pathShown offsetOf standingOf badAt speaks byteFor pathFor badByte heardFault
+    lastHeard choice choiceBytes step standing movement pairsIn isUp isDown more offsetsOf listeningOffsets closes
+    begun activated run refusedIf refusedAt _orElse_ hopsBad vertexBad unusedOf fillerBad twiceBad lastBad ownerBad
+    rankDue rankBad pathBad inRecord rule recordRules firstBroken fault faulty firstBad tooLong ragged badRecord
+    refusal otherLength scheduleBad firstBadPair runRefusal unless verdict choicesIn codes digitsIn decimal labelled
+    spaced routeWords placeWords verdictLine stageWords rowPath rowLine rowLines signed runLine codeOf fourBytes
+    wordBytes twosComplement sumBytes rawRecord recordBytes blockBytes tableBytes shown absent outcome flat rising
+    smallExamples
 worked-small = record { works = refl }
