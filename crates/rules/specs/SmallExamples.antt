@@ -7,19 +7,19 @@ use mathlib.Core.Option.{none}
 use lib.ListN.{replicate}
 use lib.IntN.{pos, negsuc}
 use lib.Dec.{eqb, ltb}
-use Rattle.lists.specs.Search.{outside, firstFrom, anyBelow, thoseBelow, anyIn, firstIn, elem, twice, same, maxBelow}
+use Rattle.lists.specs.Search.{outside, firstFrom, anyBelow, thoseBelow, anyIn, firstIn, elem, twice, same, maxBelow, countBelow}
 use Rattle.lists.specs.Fill.{tabulate, blocks, padded}
 use Rattle.lists.specs.Fold.{foldLeft}
 use Rattle.rules.specs.Table.{Path, slotsOf, nextHop, recordAt, records, rankOf, hopsOf, pathOf, ownerOf, owned, pathsBelow, pathsOf, present, rest, first, listens, listensAt, longest}
-use Rattle.rules.specs.Greedy.{stageOf, lowestOf, ringFrom, isSettled, compatible, atStart, judged, best, stage, stagesFrom, stagesUntil, fromVertex, beforeVertex, closedPart, turned, settledList, settled, isQuiet, enters}
+use Rattle.rules.specs.Greedy.{stageOf, lowestOf, ringFrom, isSettled, compatible, atStart, judged, best, stage, stagesFrom, stagesUntil, fromVertex, beforeVertex, closedPart, turned, settledList, settled, isQuiet, enters, stuckIn, stageCount, follows}
 use Rattle.rules.specs.Stable.{extends, bestGiven}
-use Rattle.rules.specs.Report.{rowBytes, rowAt, vertices, pathShown, placeIn, rankIn, row}
+use Rattle.rules.specs.Report.{rowBytes, rowAt, vertices, pathShown, placeIn, rankIn, row, report}
 use Rattle.rules.specs.Machine.{lastHeard, offsetOf, standingOf, badAt, speaks, byteFor, pathFor, badByte, heardFault, choice, choiceBytes, step, standing, movement}
-use Rattle.rules.specs.Run.{countsOf, listeningOffsets, run, pairsIn, isUp, isDown, more, offsetsOf, closes, begun, activated}
+use Rattle.rules.specs.Run.{countsOf, listeningOffsets, run, pairsIn, isUp, isDown, more, offsetsOf, closes, begun, activated, Tally}
 use Rattle.rules.specs.Refusals.{refusedIf, refusedAt, _orElse_, hopsBad, vertexBad, unusedOf, fillerBad, twiceBad, lastBad, ownerBad, rankDue, rankBad, pathBad, inRecord, rule, recordRules, firstBroken, fault, faulty, firstBad, tooLong, ragged, badRecord, refusal}
 use Rattle.rules.specs.Answers.{choicesIn, runRefusal, otherLength, scheduleBad, firstBadPair, unless, verdict}
 use Rattle.rules.specs.Text.{codes, decimal, placeWords, verdictLine, rowLines, digitsIn, labelled, spaced, routeWords, stageWords, rowPath, rowLine}
-use Rattle.rules.specs.RunText.{signed, runLine}
+use Rattle.rules.specs.RunText.{signed, runLine, ranLine, vertexLine}
 use Rattle.rules.specs.Entries.{codeOf, fourBytes, sumBytes, wordBytes, twosComplement}
 use Rattle.rules.specs.TriedExamples.{Example, tableBytes, shown, origin, absent, zeros, lentSums, pair, alone, counts, _gives_, rawRecord, recordBytes, blockBytes, outcome, Works}
 use Rattle.rules.specs.CheckExamples.{table3, table7}
@@ -46,6 +46,10 @@ unfoldable pub rising : ℕ → ℕ → List ℕ
 rising zero i = []
 rising (suc n) i = i ∷ rising n (suc i)
 
+-- a run that has come to nothing
+abbrev pub nothing : Tally
+nothing = record { heard = []; steps = 0; ups = 0; downs = 0; lastChange = 0; rounds = 0; since = []; sums = [] }
+
 unfoldable pub smallExamples : List Example
 smallExamples =
     -- the slots of the first three records of table 3: 1 owns two, 2 one
@@ -55,6 +59,8 @@ smallExamples =
     -- vertex 64 is none: it neither settles nor enters, and no ring begins or lies there
     ∷ (alone (more (isSettled (settled (λ v. []) (λ v. true) 1 64)) 0 ∷ more (isQuiet (λ v. []) (λ v. eqb v 64) (λ v. none)) 0 ∷ stagesFrom (λ v. []) (λ v. true) (λ S. isSettled (S 64)) 2 [] ∷ []) gives counts (0 ∷ 1 ∷ 2 ∷ []))
     ∷ (alone (lowestOf (63 ∷ []) ∷ lowestOf (64 ∷ []) ∷ ringFrom (λ v. eqb v 64) (λ v. v)) gives counts (63 ∷ 0 ∷ []))
+    -- nor is it counted as stuck where a refused table names it
+    ∷ (alone (report (rawRecord 1 2 (1 ∷ 64 ∷ 0 ∷ [])) .stuckCount ∷ []) gives counts (1 ∷ []))
     -- a walk through 64 vertices closes, one through 65 does not; a walk from vertex 0; no ring, no path
     ∷ (alone (ringFrom (λ v. eqb v 63) (around 63)) gives counts (rising 64 0))
     ∷ (alone (ringFrom (λ v. eqb v 0) (around 64) ++ ringFrom (λ v. eqb v 0) (λ v. v)) gives counts (0 ∷ []))
@@ -67,9 +73,11 @@ smallExamples =
     -- nothing is heard from a vertex above 63, though its byte would be another's, nor past the end of the state
     ∷ (alone (lastHeard lastOnes (replicate 256 1) 1 64 ++ lastHeard lastOnes [] 1 63 ++ lastHeard lastOnes (replicate 256 1) 1 63) gives counts (63 ∷ 63 ∷ 0 ∷ []))
     -- the listening pairs among 4,096
-    ∷ (alone (listeningOffsets lastOnes) gives counts (4032 ∷ 4095 ∷ []))
-    -- with no listening pair no step closes a round; the order of a run's numbers
-    ∷ (alone (run (λ v. []) [] (pair 1 0 ∷ []) .rounds ∷ []) gives counts (0 ∷ []))
+    ∷ (alone (listeningOffsets lastOnes ++ offsetsOf (λ v. (v ∷ 64 ∷ 0 ∷ []) ∷ []) 1) gives counts (4032 ∷ 4095 ∷ []))
+    -- an offset is 64 times the listener, and the speaker
+    ∷ (alone (more (listensAt (λ v. elim (eqb v 63) [ true ↦ (63 ∷ 1 ∷ 0 ∷ []) ∷ [] | false ↦ [] ]) 4033) 0 ∷ []) gives counts (1 ∷ []))
+    -- with no listening pair no step closes a round, and none changes anything; the order of a run's numbers
+    ∷ (alone (countsOf (run (λ v. []) [] (pair 1 0 ∷ []))) gives counts (1 ∷ 0 ∷ 0 ∷ 0 ∷ 0 ∷ []))
     ∷ (alone (countsOf (record { heard = []; steps = 1; ups = 2; downs = 3; lastChange = 4; rounds = 5; since = []; sums = [] })) gives counts (1 ∷ 2 ∷ 3 ∷ 4 ∷ 5 ∷ []))
     -- 1 for sums of another length
     ∷ (alone (codeOf (runRefusal [] zeros [] (lentSums 63)) ∷ []) gives counts (1 ∷ []))
@@ -81,6 +89,9 @@ smallExamples =
     -- what a row shows: the path, or none; the row of a vertex
     ∷ (alone (pathShown (shown 1 2 3 (4 ∷ 5 ∷ 6 ∷ 0 ∷ [])) ++ pathShown (shown 1 0 0 []) ++ vertices (7 ∷ 255 ∷ 8 ∷ [])) gives counts (4 ∷ 5 ∷ 6 ∷ 0 ∷ 7 ∷ []))
     ∷ (alone (rowAt (rising 48 0) 1) gives counts (rising 16 16))
+    -- a record is 16 bytes; what it does not have is 0
+    ∷ (alone (recordAt (rising 48 0) 1) gives counts (rising 16 16))
+    ∷ (alone (rankOf [] ∷ hopsOf [] ∷ ownerOf [] ∷ []) gives counts (0 ∷ 0 ∷ 0 ∷ []))
     -- "four bytes each, low byte first"; "negative numbers are two's complement"
     ∷ (alone (fourBytes 16909060 ++ fourBytes 4278190080 ++ fourBytes 4294967301) gives counts (4 ∷ 3 ∷ 2 ∷ 1 ∷ 0 ∷ 0 ∷ 0 ∷ 255 ∷ 5 ∷ 0 ∷ 0 ∷ 0 ∷ []))
     ∷ (alone (sumBytes (pos 65536 ∷ negsuc 0 ∷ negsuc 15 ∷ [])) gives counts (0 ∷ 0 ∷ 1 ∷ 0 ∷ 255 ∷ 255 ∷ 255 ∷ 255 ∷ 240 ∷ 255 ∷ 255 ∷ 255 ∷ replicate 244 0))
@@ -90,21 +101,23 @@ smallExamples =
     ∷ (alone (decimal 0 ++ codes " " ++ decimal 4294967295 ++ codes " " ++ decimal 12345678901 ++ codes " " ++ signed (negsuc 15) ++ signed (pos 16)) gives counts (codes "0 4294967295 2345678901 -1616"))
     -- which number stands behind which word
     ∷ (alone (verdictLine (codes "so") (1 ∷ 2 ∷ 3 ∷ 4 ∷ 5 ∷ []) ++ runLine (1 ∷ 2 ∷ 3 ∷ 4 ∷ 5 ∷ [])) gives counts (codes "verdict so settled 2 stuck 3 stages 4 longest 5\nrun steps 1 ups 2 downs 3 last 4 rounds 5\n"))
+    -- what a list of numbers, a row or the sums do not have is 0
+    ∷ (alone (verdictLine [] [] ++ runLine [] ++ rowLine 1 [] ++ ranLine [] nothing 1) gives counts (codes "verdict  settled 0 stuck 0 stages 0 longest 0\nrun steps 0 ups 0 downs 0 last 0 rounds 0\n1 stage 0 none\n1 sum 0 none\n"))
     -- the word before a place
     ∷ (alone (placeWords 3 1 ++ placeWords 4 2 ++ placeWords 11 3 ++ placeWords 12 4 ++ placeWords 13 5 ++ placeWords 14 6 ++ placeWords 15 7) gives counts (codes " record 2 record 3 offset 4 pair 6"))
     ∷ []
 
 pub worked-small : Works smallExamples
-unfolding outside firstFrom anyBelow thoseBelow anyIn firstIn elem twice same maxBelow tabulate blocks padded foldLeft
-    recordAt records rankOf hopsOf pathOf ownerOf owned pathsBelow pathsOf slotsOf present longest nextHop rest first
-    listens listensAt isSettled compatible atStart judged best stage settledList settled enters isQuiet stagesFrom
-    stagesUntil stageOf fromVertex beforeVertex closedPart lowestOf turned ringFrom extends bestGiven placeIn rankIn
-    rowBytes row rowAt vertices pathShown offsetOf standingOf badAt speaks byteFor pathFor badByte heardFault
-    lastHeard choice choiceBytes step standing movement pairsIn isUp isDown more offsetsOf listeningOffsets closes
-    begun activated run refusedIf refusedAt _orElse_ hopsBad vertexBad unusedOf fillerBad twiceBad lastBad ownerBad
-    rankDue rankBad pathBad inRecord rule recordRules firstBroken fault faulty firstBad tooLong ragged badRecord
-    refusal otherLength scheduleBad firstBadPair runRefusal unless verdict choicesIn codes digitsIn decimal labelled
-    spaced routeWords placeWords verdictLine stageWords rowPath rowLine rowLines signed runLine codeOf fourBytes
-    wordBytes twosComplement sumBytes rawRecord recordBytes blockBytes tableBytes shown absent outcome flat rising
-    smallExamples
+unfolding outside firstFrom anyBelow countBelow thoseBelow anyIn firstIn elem twice same maxBelow tabulate blocks
+    padded foldLeft recordAt records rankOf hopsOf pathOf ownerOf owned pathsBelow pathsOf slotsOf present longest
+    nextHop rest first listens listensAt isSettled compatible atStart judged stuckIn best stage settledList settled
+    enters isQuiet stagesFrom stagesUntil stageCount stageOf follows fromVertex beforeVertex closedPart lowestOf
+    turned ringFrom extends bestGiven placeIn rankIn rowBytes row rowAt vertices pathShown report offsetOf standingOf
+    badAt speaks byteFor pathFor badByte heardFault lastHeard choice choiceBytes step standing movement pairsIn isUp
+    isDown more offsetsOf listeningOffsets closes begun activated run refusedIf refusedAt _orElse_ hopsBad vertexBad
+    unusedOf fillerBad twiceBad lastBad ownerBad rankDue rankBad pathBad inRecord rule recordRules firstBroken fault
+    faulty firstBad tooLong ragged badRecord refusal otherLength scheduleBad firstBadPair runRefusal unless verdict
+    choicesIn codes digitsIn decimal labelled spaced routeWords placeWords verdictLine stageWords rowPath rowLine
+    rowLines signed runLine vertexLine ranLine codeOf fourBytes wordBytes twosComplement sumBytes rawRecord
+    recordBytes blockBytes tableBytes shown absent outcome flat rising smallExamples
 worked-small = record { works = refl }
