@@ -17,8 +17,8 @@ use Rattle.rules.specs.Report.{rowBytes, rowAt, vertices, pathShown, pla
 use Rattle.rules.specs.Machine.{lastHeard, offsetOf, standingOf, badAt, speaks, byteFor, pathFor, badByte, heardFault, choice, choiceBytes, step, standing, movement}
 use Rattle.rules.specs.Run.{countsOf, listeningOffsets, run, pairsIn, isUp, isDown, more, offsetsOf, closes, begun, activated, Tally}
 use Rattle.rules.specs.Refusals.{refusedIf, refusedAt, _orElse_, hopsBad, vertexBad, unusedOf, fillerBad, twiceBad, lastBad, ownerBad, rankDue, rankBad, pathBad, inRecord, rule, recordRules, firstBroken, fault, faulty, firstBad, tooLong, ragged, badRecord, refusal}
-use Rattle.rules.specs.Answers.{choicesIn, runRefusal, otherLength, scheduleBad, firstBadPair, unless, verdict}
-use Rattle.rules.specs.Text.{codes, decimal, placeWords, verdictLine, rowLines, digitsIn, labelled, spaced, routeWords, stageWords, rowPath, rowLine}
+use Rattle.rules.specs.Answers.{choicesIn, runRefusal, otherLength, scheduleBad, firstBadPair, unless, verdict, complete, stuck}
+use Rattle.rules.specs.Text.{codes, decimal, placeWords, verdictLine, rowLines, digitsIn, labelled, spaced, routeWords, stageWords, rowPath, rowLine, textOf, refusedLine, ringLine}
 use Rattle.rules.specs.RunText.{signed, runLine, ranLine, vertexLine}
 use Rattle.rules.specs.Entries.{codeOf, fourBytes, sumBytes, wordBytes, twosComplement}
 use Rattle.rules.specs.TriedExamples.{Example, tableBytes, shown, origin, absent, zeros, lentSums, pair, alone, counts, _gives_, rawRecord, recordBytes, blockBytes, outcome, Works}
@@ -81,9 +81,10 @@ smallExamples =
     ∷ (alone (countsOf (record { heard = []; steps = 1; ups = 2; downs = 3; lastChange = 4; rounds = 5; since = []; sums = [] })) gives counts (1 ∷ 2 ∷ 3 ∷ 4 ∷ 5 ∷ []))
     -- 1 for sums of another length
     ∷ (alone (codeOf (runRefusal [] zeros [] (lentSums 63)) ∷ []) gives counts (1 ∷ []))
-    -- a row of twelve hops, and the line of vertex 63
+    -- a row of twelve hops, and the line of vertex 63 in both texts
     ∷ (alone (rowBytes 255 16 longPath) gives counts (255 ∷ 16 ∷ 12 ∷ longPath))
-    ∷ (alone (rowLines (origin ++ absent 62 ++ shown 255 16 12 longPath) 63) gives counts (codes "63 stuck rank 16 path 63 1 2 3 4 5 6 7 8 9 10 11 0\n"))
+    ∷ (alone (textOf (stuck 2) [] (origin ++ absent 62 ++ shown 255 16 12 longPath) (1 ∷ 2 ∷ 255 ∷ [])) gives counts (codes "verdict stuck settled 0 stuck 0 stages 0 longest 0\n63 stuck rank 16 path 63 1 2 3 4 5 6 7 8 9 10 11 0\nring 1 2\n"))
+    ∷ (alone (textOf complete [] (origin ++ absent 62 ++ shown 1 1 1 (63 ∷ 0 ∷ [])) []) gives counts (codes "verdict complete settled 0 stuck 0 stages 0 longest 0\n63 stage 1 rank 1 path 63 0\n"))
     -- "A settled vertex without a path prints as `1 stage 2 none`."
     ∷ (alone (rowLine 1 (shown 2 0 0 [])) gives counts (codes "1 stage 2 none\n"))
     -- what a row shows: the path, or none; the row of a vertex
@@ -117,7 +118,7 @@ unfolding outside firstFrom anyBelow countBelow thoseBelow anyIn firstIn elem tw
     isDown more offsetsOf listeningOffsets closes begun activated run refusedIf refusedAt _orElse_ hopsBad vertexBad
     unusedOf fillerBad twiceBad lastBad ownerBad rankDue rankBad pathBad inRecord rule recordRules firstBroken fault
     faulty firstBad tooLong ragged badRecord refusal otherLength scheduleBad firstBadPair runRefusal unless verdict
-    choicesIn codes digitsIn decimal labelled spaced routeWords placeWords verdictLine stageWords rowPath rowLine
-    rowLines signed runLine vertexLine ranLine codeOf fourBytes wordBytes twosComplement sumBytes rawRecord
-    recordBytes blockBytes tableBytes shown absent outcome flat rising smallExamples
+    choicesIn codes digitsIn decimal labelled spaced routeWords placeWords refusedLine verdictLine stageWords rowPath
+    rowLine rowLines ringLine textOf signed runLine vertexLine ranLine codeOf fourBytes wordBytes twosComplement
+    sumBytes rawRecord recordBytes blockBytes tableBytes shown absent outcome flat rising smallExamples
 worked-small = record { works = refl }
