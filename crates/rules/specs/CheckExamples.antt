@@ -1,4 +1,4 @@
--- The rules page, "Tables tried by hand", tables 1 to 7, and checks in which all numbers differ, with every byte of the rows.
+-- The rules page, "Tables tried by hand", tables 1 to 7, and a check in which all numbers differ, with every byte of rows and ring.
 use mathlib.Core.Path.{refl}
 use mathlib.Core.List.{List, [], _∷_, _++_}
 use lib.ListN.{replicate}
