@@ -10,6 +10,7 @@ use Rattle.rules.specs.Report.{placeIn, rankIn, rowBytes, row, report}
 use Rattle.rules.specs.Refusals.{refusedIf, _orElse_, hopsBad, vertexBad, unusedOf, fillerBad, twiceBad, lastBad, ownerBad, rankDue, rankBad, pathBad, inRecord, rule, recordRules, firstBroken, fault, faulty, firstBad, tooLong, ragged, badRecord, refusal}
 use Rattle.rules.specs.Answers.{complete, stuck, verdictOf}
 use Rattle.rules.specs.TriedExamples.{Example, tableBytes, shown, origin, absent, check, checked, _gives_, rawRecord, recordBytes, blockBytes, checkedOf, unlessRefused, outcome, Works}
+use Rattle.rules.specs.RefusalExamples.{worked-refusal}
 
 -- (1 0) is written 1 ∷ 0 ∷ [].
 abbrev pub table2 : List (List Path)
@@ -101,6 +102,7 @@ checkExamples =
     (4 ∷ 5 ∷ 10 ∷ replicate 61 255))
     ∷ []
 
+-- computed where the list before works, so that a changed definition is refused at the first that notices
 pub worked-check : Works checkExamples
 unfolding outside firstFrom anyBelow countBelow thoseBelow anyIn elem twice same maxBelow tabulate blocks padded
     recordAt records rankOf hopsOf pathOf ownerOf owned pathsBelow pathsOf present longest nextHop first isSettled
@@ -109,4 +111,4 @@ unfolding outside firstFrom anyBelow countBelow thoseBelow anyIn elem twice same
     refusedIf _orElse_ hopsBad vertexBad unusedOf fillerBad twiceBad lastBad ownerBad rankDue rankBad pathBad inRecord
     rule recordRules firstBroken fault faulty firstBad tooLong ragged badRecord refusal verdictOf rawRecord
     recordBytes blockBytes tableBytes shown absent checkedOf unlessRefused outcome checkExamples
-worked-check = record { works = refl }
+worked-check = let before = worked-refusal in record { works = refl }

@@ -18,7 +18,7 @@ use Rattle.rules.specs.Entries.{codeOf, fourBytes, wordBytes, numberByte
 use Rattle.rules.specs.TriedExamples.{Example, recordBytes, tableBytes, shown, origin, absent, lent, small, zeros, pair, checkCall, checkForC, stepForC, runForC, checkGave, gaveToC, _gives_, rawRecord, blockBytes, outcome, Works}
 use Rattle.rules.specs.CheckExamples.{table2, table3, table7}
 use Rattle.rules.specs.RefusalExamples.{one, two}
-use Rattle.rules.specs.RunExamples.{inARow, oldNews, newNews, heardAt}
+use Rattle.rules.specs.RunExamples.{inARow, oldNews, newNews, heardAt, worked-run}
 
 -- more are stuck than the ring has, 63 among them
 abbrev pub threeStuck : List (List Path)
@@ -64,6 +64,7 @@ entryExamples =
     ∷ (runForC (tableBytes table2) zeros (1 ∷ 0 ∷ 2 ∷ 0 ∷ []) (lent 256) (lent 32) gives gaveToC 270 (zeros ∷ lent 256 ∷ lent 32 ∷ []))
     ∷ []
 
+-- computed where the list before works, so that a changed definition is refused at the first that notices
 pub worked-entry : Works entryExamples
 unfolding outside firstFrom anyBelow countBelow thoseBelow anyIn firstIn elem twice same maxBelow tabulate blocks
     padded foldLeft recordAt records rankOf hopsOf pathOf ownerOf owned pathsBelow pathsOf present longest nextHop
@@ -78,4 +79,4 @@ unfolding outside firstFrom anyBelow countBelow thoseBelow anyIn firstIn elem tw
     twosComplement sumBytes checkRefusalForC stepRefusalForC runRefusalForC rowsForC ringForC checkNumbersForC
     heardStepForC stepNumbersForC heardRunForC sumsForC runNumbersForC rawRecord recordBytes blockBytes tableBytes
     shown absent outcome entryExamples
-worked-entry = record { works = refl }
+worked-entry = let before = worked-run in record { works = refl }

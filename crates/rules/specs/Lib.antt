@@ -13,11 +13,11 @@ pub mod RunText
 pub mod Entries
 -- The worked examples: what is tried, the lists, and all of them in one statement.
 pub mod TriedExamples
-pub mod CheckExamples
 pub mod RefusalExamples
+pub mod CheckExamples
 pub mod RunExamples
-pub mod TextExamples
 pub mod EntryExamples
+pub mod TextExamples
 pub mod SmallExamples
 pub mod StatementExamples
 pub mod Examples

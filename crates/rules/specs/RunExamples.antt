@@ -17,7 +17,7 @@ use Rattle.rules.specs.Run.{pairsIn, isUp, isDown, more, offsetsOf, list
 use Rattle.rules.specs.Refusals.{refusedIf, refusedAt, _orElse_, hopsBad, vertexBad, unusedOf, fillerBad, twiceBad, lastBad, ownerBad, rankDue, rankBad, pathBad, inRecord, rule, recordRules, firstBroken, fault, faulty, firstBad, tooLong, ragged, badRecord, refusal}
 use Rattle.rules.specs.Answers.{otherLength, scheduleBad, firstBadPair, stepRefusal, runRefusal, unless, stepMovement, heardAfterStep, runNumbers, heardAfterRun, sumsAfterRun}
 use Rattle.rules.specs.TriedExamples.{Example, tableBytes, zeros, pair, at, lentSums, runs, stepCall, runCall, refused, ran, stepGave, runGave, _gives_, rawRecord, recordBytes, blockBytes, movements, ranOf, unlessRefused, outcome, Works}
-use Rattle.rules.specs.CheckExamples.{table2, table3, table7}
+use Rattle.rules.specs.CheckExamples.{table2, table3, table7, worked-check}
 
 -- Three pairs, (1,0), (2,0) and (2,1), where 2 has heard (1 0) and nobody anything else. In the schedule 2 loses its path and finds it again,
 -- and the fifth step stores another byte and changes no choice.
@@ -92,6 +92,7 @@ runExamples =
     ∷ (stepCall (tableBytes table7) (heardAt 194 2) (pair 3 1) gives stepGave (at 14 0) (pos 0) (heardAt 194 2))
     ∷ []
 
+-- computed where the list before works, so that a changed definition is refused at the first that notices
 pub worked-run : Works runExamples
 unfolding outside firstFrom anyBelow thoseBelow anyIn firstIn elem twice same blocks foldLeft recordAt records rankOf
     hopsOf pathOf ownerOf owned pathsBelow pathsOf nextHop rest first listens listensAt extends bestGiven placeIn
@@ -101,4 +102,4 @@ unfolding outside firstFrom anyBelow thoseBelow anyIn firstIn elem twice same bl
     firstBroken fault faulty firstBad tooLong ragged badRecord refusal otherLength scheduleBad firstBadPair
     stepRefusal runRefusal unless stepMovement heardAfterStep runNumbers heardAfterRun sumsAfterRun rawRecord
     recordBytes blockBytes tableBytes movements ranOf unlessRefused outcome runExamples
-worked-run = record { works = refl }
+worked-run = let before = worked-check in record { works = refl }

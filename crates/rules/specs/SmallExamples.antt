@@ -23,6 +23,7 @@ use Rattle.rules.specs.RunText.{signed, runLine, ranLine, vertexLine}
 use Rattle.rules.specs.Entries.{codeOf, fourBytes, sumBytes, wordBytes, twosComplement}
 use Rattle.rules.specs.TriedExamples.{Example, tableBytes, shown, origin, absent, zeros, lentSums, pair, alone, counts, _gives_, rawRecord, recordBytes, blockBytes, outcome, Works}
 use Rattle.rules.specs.CheckExamples.{table3, table7}
+use Rattle.rules.specs.TextExamples.{worked-text}
 
 -- lists end to end
 unfoldable pub flat : List (List ℕ) → List ℕ
@@ -108,6 +109,7 @@ smallExamples =
     ∷ (alone (placeWords 3 1 ++ placeWords 4 2 ++ placeWords 11 3 ++ placeWords 12 4 ++ placeWords 13 5 ++ placeWords 14 6 ++ placeWords 15 7) gives counts (codes " record 2 record 3 offset 4 pair 6"))
     ∷ []
 
+-- computed where the list before works, so that a changed definition is refused at the first that notices
 pub worked-small : Works smallExamples
 unfolding outside firstFrom anyBelow countBelow thoseBelow anyIn firstIn elem twice same maxBelow tabulate blocks
     padded foldLeft recordAt records rankOf hopsOf pathOf ownerOf owned pathsBelow pathsOf slotsOf present longest
@@ -121,4 +123,4 @@ unfolding outside firstFrom anyBelow countBelow thoseBelow anyIn firstIn elem tw
     choicesIn codes digitsIn decimal labelled spaced routeWords placeWords refusedLine verdictLine stageWords rowPath
     rowLine rowLines ringLine textOf signed runLine vertexLine ranLine codeOf fourBytes wordBytes twosComplement
     sumBytes rawRecord recordBytes blockBytes tableBytes shown absent outcome flat rising smallExamples
-worked-small = record { works = refl }
+worked-small = let before = worked-text in record { works = refl }

@@ -19,6 +19,7 @@ use Rattle.rules.specs.TriedExamples.{Example, recordBytes, tableBytes, 
 use Rattle.rules.specs.CheckExamples.{table5}
 use Rattle.rules.specs.RefusalExamples.{one, two}
 use Rattle.rules.specs.RunExamples.{twoPairs}
+use Rattle.rules.specs.EntryExamples.{worked-entry}
 
 unfoldable pub textExamples : List Example
 textExamples =
@@ -38,6 +39,7 @@ textExamples =
     ∷ (runPrints (one ++ two ++ recordBytes 1 (1 ∷ 2 ∷ 0 ∷ [])) [] gives printedAs "refused 9 record 2\n")
     ∷ []
 
+-- computed where the list before works, so that a changed definition is refused at the first that notices
 pub worked-text : Works textExamples
 unfolding outside firstFrom anyBelow countBelow thoseBelow anyIn firstIn elem twice same maxBelow tabulate blocks
     padded foldLeft recordAt records rankOf hopsOf pathOf ownerOf owned pathsBelow pathsOf present longest nextHop
@@ -51,4 +53,4 @@ unfolding outside firstFrom anyBelow countBelow thoseBelow anyIn firstIn elem tw
     decimal labelled spaced routeWords placeWords refusedLine verdictLine stageWords rowPath rowLine rowLines ringLine
     textOf checkText signed runLine vertexLine vertexLines runTextOf ranLine runText ranText rawRecord recordBytes
     blockBytes tableBytes outcome textExamples
-worked-text = record { works = refl }
+worked-text = let before = worked-entry in record { works = refl }
