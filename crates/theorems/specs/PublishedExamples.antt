@@ -16,7 +16,7 @@ use Rattle.rules.specs.Table.{Path, recordAt, records, rankOf, hopsOf, pathOf, 
 use Rattle.rules.specs.Refusals.{_orElse_, hopsBad, vertexBad, unusedOf, fillerBad, twiceBad, lastBad, ownerBad, rankDue, rankBad, pathBad, inRecord, rule, recordRules, firstBroken, fault, faulty, firstBad, tooLong, ragged, refusal, refusedIf, refusedAt, badRecord}
 use Rattle.rules.specs.Greedy.{isSettled, compatible, atStart, best, judged, stage, settledList, settled, enters, isQuiet, stagesFrom, stagesUntil, stageCount, stageOf, stuckIn, follows, fromVertex, beforeVertex, closedPart, lowestOf, turned, ringFrom}
 use Rattle.rules.specs.Stable.{Stable, extends, bestGiven}
-use Rattle.rules.specs.Report.{placeIn, rankIn, rowBytes, row, rowAt, vertices, pathShown, report}
+use Rattle.rules.specs.Report.{placeIn, rankIn, rowBytes, row, report}
 use Rattle.rules.specs.Machine.{offsetOf, speaks, byteFor, pathFor, badAt, badByte, heardFault, lastHeard, choice, step}
 use Rattle.rules.specs.Run.{pairsIn}
 use Rattle.rules.specs.Answers.{stuck, verdictOf}
