@@ -1,8 +1,8 @@
 // The check program: a table from standard input, its check to standard output.
+use check_text::check_text;
 use libc::STDERR_FILENO;
 use libc::STDIN_FILENO;
 use libc::STDOUT_FILENO;
-use printed::check_text;
 
 // Whether standard input is at its end, and not at an error.
 fn at_end() -> bool {

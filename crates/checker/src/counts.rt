@@ -4,7 +4,7 @@ ghost use lib.ListN.{length};
 ghost use Rattle.lists.specs.Fill.{tabulate};
 ghost use Rattle.judge.specs.Standing.{isJudged};
 ghost use Rattle.checker.specs.Rows.{countBetween};
-use parts::is_outside;
+use slices::is_outside;
 
 // Which vertices are stuck: those that would be judged once more.
 pub(crate) fn stuck_in(marks: &[u8]) -> [bool; 64]

@@ -17,11 +17,11 @@ use crate::rows::write_rows;
 use crate::settle::settle;
 use answer::Answer;
 use answer::Verdict;
-use facts::longest_hops;
-use facts::slots_of;
 use reader::Reading;
 use reader::read;
 use ring::find_ring;
+use table_facts::longest_hops;
+use table_facts::slots_of;
 
 // A refusal's counts are all 0.
 fn refused(number: u8, place: usize) -> Answer

@@ -5,9 +5,9 @@ ghost use lib.ListN.{length};
 ghost use Rattle.lists.specs.Fill.{blocks};
 ghost use Rattle.rules.specs.Report.{rowBytes};
 ghost use Rattle.checker.specs.Rows.{shownRow};
-use parts::fill_padded;
-use record::path_at;
-use record::rank_at;
+use record_fields::path_at;
+use record_fields::rank_at;
+use slices::fill_padded;
 
 // The hops of a path, 0 where there is none.
 fn hops_of(path: &[u8]) -> u8

@@ -8,10 +8,10 @@ ghost use Rattle.lists.specs.Fill.{tabulate};
 ghost use Rattle.rules.specs.Table.{records, slotsOf};
 ghost use Rattle.rules.specs.Refusals.{refusal};
 ghost use Rattle.checker.specs.Settling.{startMark, Ended};
-use facts::present_in;
 use judge::Standing;
 use judge::stage;
-use parts::same_parts;
+use slices::same_parts;
+use table_facts::present_in;
 
 // The marks and records after the last stage, and how many stages counted.
 pub(crate) struct Settling {

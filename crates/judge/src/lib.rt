@@ -5,9 +5,9 @@ ghost use Rattle.lists.specs.Search.{same};
 ghost use Rattle.lists.specs.Fill.{tabulate};
 ghost use Rattle.rules.specs.Greedy.{compatible};
 ghost use Rattle.judge.specs.Standing.{isIn, heldPath, settledBy, bestRecord, entersWith, isJudged, shownAfter, markAfter};
-use parts::same_parts;
-use record::next_at;
-use record::path_at;
+use record_fields::next_at;
+use record_fields::path_at;
+use slices::same_parts;
 
 // A mark for each vertex (its stage, 254 absent, 255 waiting) and the record of the path that it holds or waits for.
 pub struct Standing {

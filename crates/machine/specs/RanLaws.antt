@@ -23,8 +23,8 @@ use Rattle.laws.specs.AnswerLaws.{run-refused-heard, run-refused-schedule, run-
 use Rattle.laws.specs.ShapeLaws.{shaped}
 use Rattle.answer.specs.declared.RunAnswer.{RunAnswer}
 use Rattle.answer.specs.Moves.{runRefusalIn, runNumbersIn}
-use Rattle.state.specs.Judged.{badOffset, badPair}
-use Rattle.state.specs.JudgedLaws.{fault-none, fault-some, pairs-none, pairs-some}
+use Rattle.admission.specs.Judged.{badOffset, badPair}
+use Rattle.admission.specs.JudgedLaws.{fault-none, fault-some, pairs-none, pairs-some}
 use Rattle.machine.specs.Asked.{Slots, askedRow}
 use Rattle.machine.specs.Rounds.{markCount}
 use Rattle.machine.specs.RoundLaws.{marks-count}

@@ -22,8 +22,8 @@ use Rattle.laws.specs.Shape.{Shaped}
 use Rattle.laws.specs.ShapeLaws.{shaped}
 use Rattle.answer.specs.declared.StepAnswer.the-variants.{Moved, Refused}
 use Rattle.answer.specs.Moves.{stepRefusalIn, movementIn}
-use Rattle.state.specs.Judged.{badOffset, marksPair}
-use Rattle.state.specs.JudgedLaws.{fault-none, fault-some, marks-listen}
+use Rattle.admission.specs.Judged.{badOffset, marksPair}
+use Rattle.admission.specs.JudgedLaws.{fault-none, fault-some, marks-listen}
 use Rattle.machine.specs.Moves.{Says, Worked}
 use Rattle.machine.specs.MoveLaws.{small-told}
 use Rattle.machine.specs.Stepped.{Stepped}

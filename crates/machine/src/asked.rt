@@ -6,9 +6,9 @@ ghost use Rattle.rules.specs.Table.{pathsOf, rest};
 ghost use Rattle.rules.specs.Report.{placeIn};
 ghost use Rattle.rules.specs.Machine.{byteFor};
 ghost use Rattle.machine.specs.Asked.{slotPaths, Slots, askedRow};
-use parts::same_parts;
-use record::next_at;
-use record::path_at;
+use record_fields::next_at;
+use record_fields::path_at;
+use slices::same_parts;
 
 // A function of its own, since the cast of an element in place would ask again that the element fits.
 pub(crate) fn wide(number: u16) -> usize

@@ -10,8 +10,8 @@ ghost use Rattle.rules.specs.Machine.{byteFor, lastHeard, choice, choiceBytes};
 ghost use Rattle.machine.specs.Asked.{Slots, SlotRow, askedRow, hearsByte};
 ghost use Rattle.machine.specs.Found.{foundByte};
 use crate::asked::wide;
-use parts::byte_at;
-use record::next_at;
+use record_fields::next_at;
+use slices::byte_at;
 
 // The slot that was found, or none.
 pub(crate) enum Found {

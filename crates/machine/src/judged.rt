@@ -7,12 +7,12 @@ ghost use Rattle.rules.specs.Answers.{runRefusal, runNumbers, heardAfterRun, su
 ghost use Rattle.answer.specs.Moves.{runRefusalIn, runNumbersIn};
 ghost use Rattle.machine.specs.Ran.{refused};
 use crate::work::work;
+use admission::bad_offset;
+use admission::bad_pair;
 use answer::RunAnswer;
 use answer::RunVerdict;
-use facts::listening_in;
-use facts::spoken_in;
-use state::bad_offset;
-use state::bad_pair;
+use table_facts::listening_in;
+use table_facts::spoken_in;
 
 // A refusal's other numbers are 0.
 pub(crate) fn refusal_of(number: u8, place: usize) -> RunAnswer

@@ -18,9 +18,9 @@ use crate::judged::run_accepted;
 use crate::pair::step_accepted;
 use answer::RunAnswer;
 use answer::StepAnswer;
-use facts::slots_of;
 use reader::Reading;
 use reader::read;
+use table_facts::slots_of;
 
 // The choice of every vertex as a byte, all 0 where the table is refused.
 pub fn choices(table: &[u8], heard: &[u8]) -> [u8; 64]

@@ -12,12 +12,12 @@ use crate::asked::asked_row;
 use crate::choice::choice_byte;
 use crate::moves::hear;
 use crate::moves::movement;
+use admission::bad_offset;
+use admission::is_listening;
 use answer::StepAnswer;
-use facts::listening_in;
-use facts::slots_of;
-use facts::spoken_in;
-use state::bad_offset;
-use state::is_listening;
+use table_facts::listening_in;
+use table_facts::slots_of;
+use table_facts::spoken_in;
 
 // Works a listening pair of an accepted table, and answers the listener's movement.
 fn work_pair(table: &[u8], heard: &mut [u8], v: usize, u: usize) -> i32

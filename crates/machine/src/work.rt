@@ -20,7 +20,7 @@ use crate::rounds::activate;
 use crate::rounds::count_pairs;
 use answer::RunAnswer;
 use answer::RunVerdict;
-use facts::slots_of;
+use table_facts::slots_of;
 
 // The answer of an accepted run.
 fn answer_of(steps: usize, counts: Counts, rounds: Rounds) -> RunAnswer

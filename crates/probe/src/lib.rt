@@ -6,17 +6,17 @@ ghost use lib.ListN.{length};
 ghost use Rattle.rules.specs.Refusals.{refusal};
 ghost use Rattle.rules.specs.Text.{checkText};
 ghost use Rattle.rules.specs.RunText.{ranText};
-ghost use Rattle.letters.specs.Lay.{overlaid};
+ghost use Rattle.text_writing.specs.Lay.{overlaid};
 ghost use Rattle.rules.specs.Entries.{codeOf};
 ghost use Rattle.probe.specs.Numbers.{markOf, slotAt};
-use facts::listening_in;
-use facts::longest_hops;
-use facts::present_in;
-use facts::slots_of;
-use printed::check_text;
+use check_text::check_text;
 use reader::Reading;
 use reader::read;
 use run_text::run_text;
+use table_facts::listening_in;
+use table_facts::longest_hops;
+use table_facts::present_in;
+use table_facts::slots_of;
 
 // 0 where the table is accepted, otherwise the refusal's number plus 256 times its place.
 #[no_mangle]

@@ -6,13 +6,13 @@ ghost use lib.ListN.{take, drop, replicate};
 ghost use Rattle.rules.specs.Answers.{heardAfterRun};
 ghost use Rattle.rules.specs.Text.{codes, spaced};
 ghost use Rattle.rules.specs.RunText.{runText};
-ghost use Rattle.letters.specs.Lay.{Laid};
-use letters::put;
-use letters::put_spaced;
+ghost use Rattle.text_writing.specs.Lay.{Laid};
 use machine::choices;
 use machine::run;
-use parts::at_most;
 use run_lines::print_run;
+use slices::at_most;
+use text_writing::put;
+use text_writing::put_spaced;
 
 // So many bytes from a place on, as far as there are.
 pub fn part(bytes: &[u8], from: usize, count: usize) -> &[u8]

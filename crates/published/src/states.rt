@@ -3,7 +3,7 @@ ghost use mathlib.Core.Path.{_≡_};
 ghost use Prim.Native.Nat.{_<_};
 ghost use Rattle.theorems.specs.Published.{rowThree, changesAt, someStepChanges};
 use machine::step;
-use parts::same_parts;
+use slices::same_parts;
 
 // Row 3 of Table 4: 1, 3 and 4 have heard (0), 2 has heard (3 0) and (4 0), and 4 has heard (2 3 0).
 pub fn row_three() -> [u8; 4096]

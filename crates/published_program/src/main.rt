@@ -1,7 +1,7 @@
 // The published examples of paper 001, run: of each its check, then its rows and states, and what the machine makes of
 // them.
+use check_text::check_text;
 use libc::STDOUT_FILENO;
-use printed::check_text;
 use published::lines::part;
 use published::lines::run_from;
 use published::lines::title_text;

@@ -5,16 +5,16 @@ ghost use Rattle.rules.specs.Table.{records, recordAt, hopsAt};
 ghost use Rattle.rules.specs.Refusals.{hopsBad, vertexBad, fillerBad, twiceBad, lastBad, ownerBad, rankDue, rankBad, pathBad, fault};
 ghost use Rattle.laws.specs.TableLaws.{Orderly};
 ghost use Rattle.reader.specs.Front.{front};
-use parts::any_outside;
-use parts::byte_at;
-use parts::has_twice;
-use parts::is_outside;
-use parts::same_parts;
-use record::hops_at;
-use record::owner_at;
-use record::path_at;
-use record::rank_at;
-use record::record_at;
+use record_fields::hops_at;
+use record_fields::owner_at;
+use record_fields::path_at;
+use record_fields::rank_at;
+use record_fields::record_at;
+use slices::any_outside;
+use slices::byte_at;
+use slices::has_twice;
+use slices::is_outside;
+use slices::same_parts;
 
 // Refusal 4.
 pub(crate) fn hops_bad(t: &[u8], i: usize) -> bool

@@ -4,10 +4,10 @@ ghost use lib.ListN.{length};
 ghost use Rattle.lists.specs.Fill.{padded};
 ghost use Rattle.rules.specs.Greedy.{beforeVertex, lowestOf, turned};
 ghost use Rattle.ring.specs.Ring.{ClosedAt, lowestMarked, nextIn, ringIn};
-use parts::at_most;
-use parts::fill_padded;
-use parts::is_marked;
-use record::next_at;
+use record_fields::next_at;
+use slices::at_most;
+use slices::fill_padded;
+use slices::is_marked;
 
 // The lowest marked vertex, 64 where there is none.
 fn lowest_marked(marks: &[bool]) -> u8

@@ -9,8 +9,8 @@ use Rattle.rules.specs.RunText.{runLine, runTextOf}
 use Rattle.answer.specs.declared.RunVerdict.{RunVerdict}
 use Rattle.answer.specs.declared.RunVerdict.the-variants.{Accepted, Refused}
 use Rattle.answer.specs.Moves.{runRefusalIn}
-use Rattle.letters.specs.Lay.{Laid}
-use Rattle.letters.specs.LayLaws.{laid-one}
+use Rattle.text_writing.specs.Lay.{Laid}
+use Rattle.text_writing.specs.LayLaws.{laid-one}
 
 module _ (v : RunVerdict) (numbers lines : List ℕ) where
   pub accepted-text : v ≡ Accepted → runLine numbers ++ lines ≡ runTextOf (runRefusalIn v) numbers lines

@@ -4,20 +4,20 @@ ghost use lib.ListN.{getD};
 ghost use lib.IntN.{pos};
 ghost use Rattle.rules.specs.RunText.{runLine, vertexLine, runTextOf};
 ghost use Rattle.answer.specs.Moves.{runRefusalIn, runNumbersIn};
-ghost use Rattle.letters.specs.Lay.{Laid};
+ghost use Rattle.text_writing.specs.Lay.{Laid};
 ghost use Rattle.run_lines.specs.Shown.{rankedRecord, shownLines};
 use answer::RunAnswer;
 use answer::RunVerdict;
-use facts::present_in;
-use facts::slots_of;
-use letters::put;
-use letters::put_labelled;
-use letters::put_number;
-use letters::put_refused;
-use letters::put_route;
-use letters::put_signed;
-use parts::byte_at;
-use record::path_at;
+use record_fields::path_at;
+use slices::byte_at;
+use table_facts::present_in;
+use table_facts::slots_of;
+use text_writing::put;
+use text_writing::put_labelled;
+use text_writing::put_number;
+use text_writing::put_refused;
+use text_writing::put_route;
+use text_writing::put_signed;
 
 // `run steps 5 ups 4 downs 1 last 5 rounds 1`.
 fn put_numbers(text: &mut [u8], answer: RunAnswer) -> usize

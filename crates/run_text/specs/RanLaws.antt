@@ -26,8 +26,8 @@ use Rattle.laws.specs.RunTextLaws.{vertices-ext, ran-text-fits}
 use Rattle.laws.specs.AnswerLaws.{run-admitted}
 use Rattle.answer.specs.declared.RunAnswer.{RunAnswer}
 use Rattle.answer.specs.Moves.{runRefusalIn, runNumbersIn}
-use Rattle.letters.specs.Lay.{Laid, overlaid}
-use Rattle.letters.specs.LayLaws.{laid-as, laid-fits}
+use Rattle.text_writing.specs.Lay.{Laid, overlaid}
+use Rattle.text_writing.specs.LayLaws.{laid-as, laid-fits}
 use Rattle.run_lines.specs.Shown.{rankedRecord, shownLine, shownLines}
 
 -- an accepted table

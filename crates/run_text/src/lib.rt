@@ -3,7 +3,7 @@ ghost use mathlib.Core.Path.{_≡_};
 ghost use Prim.Native.Nat.{min};
 ghost use lib.ListN.{length};
 ghost use Rattle.rules.specs.RunText.{ranText};
-ghost use Rattle.letters.specs.Lay.{overlaid};
+ghost use Rattle.text_writing.specs.Lay.{overlaid};
 use machine::choices;
 use machine::run;
 use run_lines::print_run;

@@ -1,7 +1,7 @@
 -- `run_lines::print_run` meets its contract: the lines of each verdict behind each other.
 -- Assumes nothing.
 use borrow.Author.Needs.{needs}
-use Rattle.letters.specs.LayLaws.{laid-then, laid-as, laid-length}
+use Rattle.text_writing.specs.LayLaws.{laid-then, laid-as, laid-length}
 use Rattle.run_lines.specs.VerdictLaws.{accepted-text, refused-text}
 use Rattle.run_lines.proofs.print_run.Statement.{statement}
 use Rattle.run_lines.proofs.print_run.Tie as tie

@@ -4,7 +4,7 @@ use borrow.Author.Needs.{needs}
 use Rattle.rules.specs.Text.{codes, labelled}
 use Rattle.rules.specs.RunText.{runLine}
 use Rattle.answer.specs.Moves.{runNumbersIn}
-use Rattle.letters.specs.LayLaws.{laid-then, laid-length}
+use Rattle.text_writing.specs.LayLaws.{laid-then, laid-length}
 use Rattle.run_lines.proofs.put_numbers.Statement.{statement}
 use Rattle.run_lines.proofs.put_numbers.Tie as tie
 

@@ -5,7 +5,7 @@ use borrow.Author.Needs.{needs}
 use mir.Facts.{toZ-ofZ}
 use Rattle.rules.specs.Text.{codes}
 use Rattle.rules.specs.RunText.{signed, vertexLine}
-use Rattle.letters.specs.LayLaws.{laid-then, laid-as, laid-length}
+use Rattle.text_writing.specs.LayLaws.{laid-then, laid-as, laid-length}
 use Rattle.run_lines.proofs.put_vertex.Statement.{statement}
 use Rattle.run_lines.proofs.put_vertex.Tie as tie
 

@@ -7,8 +7,8 @@ use borrow.Author.Tests.{not-true, not-false}
 use mir.Syntax.{w32}
 use mir.Facts.{toZ-ofZ}
 use Rattle.laws.specs.RunTextLaws.{vertices-none}
-use Rattle.letters.specs.Lay.{Laid}
-use Rattle.letters.specs.LayLaws.{laid-then, laid-nothing, laid-as, laid-length}
+use Rattle.text_writing.specs.Lay.{Laid}
+use Rattle.text_writing.specs.LayLaws.{laid-then, laid-nothing, laid-as, laid-length}
 use Rattle.run_lines.specs.Shown.{shownLines}
 use Rattle.run_lines.specs.ShownLaws.{shown-absent, shown-present}
 use Rattle.run_lines.proofs.put_vertices.Statement.{statement}

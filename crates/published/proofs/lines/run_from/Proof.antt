@@ -1,7 +1,7 @@
 -- `published::lines::run_from` meets its contract: what the run's answer prints is the text of the run.
 -- Assumes nothing.
 use borrow.Author.Needs.{needs}
-use Rattle.letters.specs.LayLaws.{laid-as}
+use Rattle.text_writing.specs.LayLaws.{laid-as}
 use Rattle.run_text.specs.RanLaws.{text-is}
 use Rattle.published.proofs.lines.run_from.Statement.{statement}
 use Rattle.published.proofs.lines.run_from.Tie as tie

@@ -2,7 +2,7 @@
 -- Assumes nothing.
 use borrow.Author.Needs.{needs}
 use Rattle.rules.specs.Text.{codes}
-use Rattle.letters.specs.LayLaws.{laid-then, laid-length}
+use Rattle.text_writing.specs.LayLaws.{laid-then, laid-length}
 use Rattle.published.proofs.lines.title_text.Statement.{statement}
 use Rattle.published.proofs.lines.title_text.Tie as tie
 
