@@ -144,3 +144,10 @@ pub fn at_most(n: usize, most: usize) -> usize
     }
     n
 }
+
+// A function of its own, since the cast of an element in place would ask again that the element fits.
+pub fn wide(number: u16) -> usize
+    ensures { λ r. ⌜ r ≡ number ⌝ }
+{
+    number as usize
+}
