@@ -1,0 +1,248 @@
+-- Laws of where slots lead: the search for a slot, the count of the pairs, and that those of an accepted table are the rules'.
+use mathlib.Core.Path.{_≡_, refl, sym, ap, _∙_}
+use mathlib.Core.Logic.{_≢_}
+use mathlib.Core.Bool.{Bool, true, false}
+use mathlib.Core.List.{List, [], map}
+use mathlib.Core.Option.{none, some}
+use Prim.Native.Nat.{ℕ, zero, suc, _+_, _-_, _*_, _/_, _%_, _<_, _≤_}
+use native.Mathlib.Omega.{arith}
+use native.Mathlib.Nat.{not-suc-le-zero}
+use lib.ListN.{length, getD, length-map, List·getD-eq-default}
+use lib.Dec.{eqb, ltb}
+use borrow.Author.Tests.{eq-eqb, lt-ltb, le-ltb, eqb-true, ltb-true}
+use Rattle.lists.specs.Tests.{true≢, by-test, by-equal, by-less, by-option, and-parts}
+use Rattle.lists.specs.Search.{firstFrom, countBelow}
+use Rattle.lists.specs.SearchLaws.{Found, first-found, first-none, search-hit, search-end, count-in, count-out, count-ext, count-most, count-one}
+use Rattle.lists.specs.ListLaws.{getD-within, any-at, some-at}
+use Rattle.lists.specs.NumberLaws.{told-first, told-second}
+use Rattle.lists.specs.Fill.{padded, tabulate}
+use Rattle.lists.specs.FillLaws.{padded-at, padded-length, tabulate-at}
+use Rattle.lists.specs.RangeLaws.{map-at}
+use Rattle.rules.specs.Table.{Path, nextHop, leadsTo, listens, listensAt}
+use Rattle.laws.specs.Shape.{Shaped}
+use Rattle.laws.specs.MachineLaws.{listening}
+use Rattle.pairs.specs.NextHops.{nextRow, slotTo, leadsIn, listensIn, pairNumber}
+
+-- the search for a slot
+
+module _ (nexts : List ℕ) (u : ℕ) where
+  abbrev pub there : ℕ → Bool
+  there k = eqb (getD nexts k 0) u
+
+  module _ (k : ℕ) (come : firstFrom there k (16 - k) ≡ firstFrom there 0 16) where
+    pub slot-hit : k < 16 → getD nexts k 0 ≡ u → k ≡ slotTo nexts u
+    unfolding slotTo
+    slot-hit h e = rw (search-hit there 16 k _ come h (eq-eqb _ u e), slotTo)
+
+    pub slot-end : 16 ≤ k → 16 ≡ slotTo nexts u
+    unfolding slotTo
+    slot-end h = rw (search-end there 16 k _ come h, slotTo)
+
+  -- a slot that is found leads to u, and is no later than any that does
+  slot-found : slotTo nexts u < 16 → Found there 0 16 (slotTo nexts u)
+  unfolding slotTo
+  slot-found h =
+      by-option (firstFrom there 0 16)
+      (λ q. let z : slotTo nexts u ≡ 16 = rw (q, slotTo) in absurd (omega arith))
+      (λ k q. let z : slotTo nexts u ≡ k = rw (q, slotTo) in rw z (first-found there 0 16 k q))
+
+  pub slot-leads : slotTo nexts u < 16 → getD nexts (slotTo nexts u) 0 ≡ u
+  slot-leads h = eqb-true _ u (slot-found h .passes)
+
+  pub slot-before : (k : ℕ) → k < 16 → getD nexts k 0 ≡ u → slotTo nexts u ≤ k
+  unfolding slotTo
+  slot-before k h e =
+      by-option (firstFrom there 0 16)
+      (λ q. absurd (not-both (first-none there 0 16 q k (omega arith) (omega arith))))
+      (λ j q. let z : slotTo nexts u ≡ j = rw (q, slotTo) in
+      by-less k j (λ l. absurd (not-both (first-found there 0 16 j q .earliest k (omega arith) l))) (λ l. omega arith))
+    where
+      not-both : there k ≡ false → ⊥
+      not-both f = true≢ (eq-eqb (getD nexts k 0) u e) f
+
+  pub slot-most : slotTo nexts u ≤ 16
+  unfolding slotTo
+  slot-most =
+      by-option (firstFrom there 0 16)
+      (λ q. let z : slotTo nexts u ≡ 16 = rw (q, slotTo) in omega arith)
+      (λ j q. let z : slotTo nexts u ≡ j = rw (q, slotTo) in omega (arith, first-found there 0 16 j q .under))
+
+  -- whether one is found tells for a vertex whether a slot leads to it
+  pub leads-vertex : u < 64 → ltb (slotTo nexts u) 16 ≡ leadsIn nexts u
+  unfolding leadsIn
+  leads-vertex h = rw (lt-ltb u 64 h)
+
+  pub leads-other : 64 ≤ u → false ≡ leadsIn nexts u
+  unfolding leadsIn
+  leads-other h = rw (le-ltb u 64 h)
+
+-- the count of a row, which has come to slot k: the vertices whose first slot lies before it
+
+module _ (nexts : List ℕ) where
+  abbrev pub metBefore : ℕ → ℕ → Bool
+  metBefore k u = ltb (slotTo nexts u) k
+
+  pub met-none : 0 ≡ countBelow (metBefore 0) 64
+  unfolding countBelow
+  met-none = sym (nothing 64)
+    where
+      nothing : (n : ℕ) → countBelow (metBefore 0) n ≡ 0
+      nothing zero = refl
+      nothing (suc n) = count-out (metBefore 0) n (le-ltb (slotTo nexts n) 0 (omega arith)) ∙ nothing n
+
+  module _ (k count : ℕ) (come : count ≡ countBelow (metBefore k) 64) where
+    -- behind the last slot all have been met
+    pub met-all : k ≤ 16 → 16 ≤ k → count ≡ countBelow (leadsIn nexts) 64
+    met-all h l =
+        let z : k ≡ 16 = omega arith in
+        come ∙ count-ext (metBefore k) (leadsIn nexts) 64 (λ u s. rw z (leads-vertex nexts u s))
+
+    -- another vertex's first slot lies before k where it lies before the next
+    met-other : (u : ℕ) → slotTo nexts u ≢ k → metBefore (k + 1) u ≡ metBefore k u
+    met-other u f =
+        by-less (slotTo nexts u) k
+        (λ l. lt-ltb _ (k + 1) (omega arith) ∙ sym (lt-ltb _ k l))
+        (λ l. le-ltb _ (k + 1) (omega arith) ∙ sym (le-ltb _ k l))
+
+    met-same : ((u : ℕ) → u < 64 → slotTo nexts u ≢ k) → count ≡ countBelow (metBefore (k + 1)) 64
+    met-same f = come ∙ sym (count-ext (metBefore (k + 1)) (metBefore k) 64 (λ u h. met-other u (f u h)))
+
+    module _ (l : k < 16) where
+      at-slot : (u : ℕ) → slotTo nexts u ≡ k → getD nexts k 0 ≡ u
+      at-slot u e = rw e at (slot-leads nexts u (omega arith))
+
+      -- a slot that leads to no vertex adds none
+      pub met-no-vertex : 64 ≤ getD nexts k 0 → count ≡ countBelow (metBefore (k + 1)) 64
+      met-no-vertex h = met-same (λ u s e. omega (arith, at-slot u e))
+
+      -- nor does one that leads to a vertex which an earlier slot leads to
+      module _ (s : ℕ) (told : s ≡ slotTo nexts (getD nexts k 0)) where
+        pub met-again : s < k → count ≡ countBelow (metBefore (k + 1)) 64
+        met-again h = met-same (λ u i e. omega (arith, ap (slotTo nexts) (at-slot u e)))
+
+        -- every other adds one
+        pub met-more : getD nexts k 0 < 64 → k ≤ s → count + 1 ≡ countBelow (metBefore (k + 1)) 64
+        met-more i h =
+            let first : slotTo nexts (getD nexts k 0) ≡ k = omega (arith, slot-before nexts (getD nexts k 0) k l refl) in
+            let more = count-one (metBefore (k + 1)) (metBefore k) 64 (getD nexts k 0) i
+            (lt-ltb _ (k + 1) (omega arith)) (le-ltb _ k (omega arith))
+            (λ u j f. met-other u (λ e. f (sym (at-slot u e)))) in
+            omega arith
+
+-- the count of the pairs, row by row
+
+pub row-few : (nexts : List ℕ) (n : ℕ) → n ≡ countBelow (leadsIn nexts) 64 → n ≤ 64
+row-few nexts n e = omega (arith, count-most (leadsIn nexts) 64)
+
+count-add : (f : ℕ → Bool) (m n : ℕ) → countBelow f (m + n) ≡ countBelow f m + countBelow (λ k. f (m + k)) n
+unfolding countBelow
+count-add f m zero = let z : m + 0 ≡ m = omega arith in ap (countBelow f) z ∙ sym (omega arith)
+count-add f m (suc n) =
+    let z : m + suc n ≡ suc (m + n) = omega arith in
+    ap (countBelow f) z
+    ∙ by-test (f (m + n))
+    (λ q. omega (arith, count-in f (m + n) q, count-in (λ k. f (m + k)) n q, count-add f m n))
+    (λ q. omega (arith, count-out f (m + n) q, count-out (λ k. f (m + k)) n q, count-add f m n))
+
+module _ (nexts : List (List ℕ)) where
+  listens-at : (v u : ℕ) → u < 64 → listensIn nexts (64 * v + u) ≡ leadsIn (getD nexts v []) u
+  unfolding listensIn
+  listens-at v u h = rw (told-first v u h, told-second v u h)
+
+  pub pairs-none : 0 ≡ countBelow (listensIn nexts) (64 * 0)
+  unfolding countBelow
+  pairs-none = refl
+
+  pub pairs-more : (v count : ℕ)
+      → count ≡ countBelow (listensIn nexts) (64 * v)
+      → (n : ℕ)
+      → n ≡ countBelow (leadsIn (getD nexts v [])) 64
+      → count + n ≡ countBelow (listensIn nexts) (64 * (v + 1))
+  pairs-more v count e n q =
+      let z : 64 * (v + 1) ≡ 64 * v + 64 = omega arith in
+      rw (z, count-add (listensIn nexts) (64 * v) 64, count-ext (λ u. listensIn nexts (64 * v + u)) (leadsIn (getD nexts v [])) 64 (listens-at v))
+      (omega arith)
+
+-- over permitted paths
+
+module _ (own : List Path) (few : length own ≤ 16) where
+  row-size : length (nextRow own) ≡ 16
+  unfolding nextRow
+  row-size = padded-length 255 16 (map nextHop own)
+
+  row-at : (k : ℕ) → k < 16 → getD (nextRow own) k 0 ≡ getD (map nextHop own) k 255
+  unfolding nextRow
+  row-at k h = getD-within (nextRow own) k 0 255 (omega (arith, row-size)) ∙ padded-at 255 16 (map nextHop own) k h
+
+  pub next-at : (k : ℕ) → k < length own → getD (nextRow own) k 0 ≡ nextHop (getD own k [])
+  next-at k h = row-at k (omega arith) ∙ map-at nextHop own k [] 255 h
+
+  next-past : (k : ℕ) → length own ≤ k → k < 16 → getD (nextRow own) k 0 ≡ 255
+  next-past k h l = row-at k l ∙ List·getD-eq-default (map nextHop own) 255 {n = k} (omega (arith, length-map own nextHop))
+
+  -- the slots lead where the paths do
+  pub leads-told : (u : ℕ) → u < 64 → leadsIn (nextRow own) u ≡ leadsTo own u
+  leads-told u h =
+      by-less (slotTo (nextRow own) u) 16
+      (λ l. let e = slot-leads (nextRow own) u l in
+      sym (leads-vertex (nextRow own) u h) ∙ lt-ltb _ 16 l
+      ∙ sym (by-less (slotTo (nextRow own) u) (length own)
+      (λ m. any-at (λ p. eqb (nextHop p) u) own [] (slotTo (nextRow own) u) m (eq-eqb _ u (sym (next-at (slotTo (nextRow own) u) m) ∙ e)))
+      (λ m. absurd (omega (arith, next-past (slotTo (nextRow own) u) m l)))))
+      (λ l. sym (leads-vertex (nextRow own) u h) ∙ le-ltb _ 16 l
+      ∙ sym (by-test (leadsTo own u)
+      (λ q. let r = some-at (λ p. eqb (nextHop p) u) own [] q in
+      absurd (omega (arith, few, slot-before (nextRow own) u (r .0) (omega (arith, r .1)) (next-at (r .0) (r .1) ∙ eqb-true _ u (r .2)), r .1)))
+      (λ q. q)))
+
+module _ (paths : ℕ → List Path) (present : ℕ → Bool) (shaped : Shaped paths present) (nexts : List (List ℕ))
+    (found : nexts ≡ tabulate (λ v. nextRow (paths v)) 64) where
+  -- each vertex has its row
+  pub row-told : (v : ℕ) → v < 64 → getD nexts v [] ≡ nextRow (paths v)
+  row-told v h = ap (λ (l : List (List ℕ)). getD l v []) found ∙ tabulate-at (λ w. nextRow (paths w)) 64 v [] h
+
+  -- who listens, by the rows, is who listens
+  pub row-listens : (v u : ℕ) → v < 64 → leadsIn (getD nexts v []) u ≡ listens paths v u
+  unfolding listens
+  row-listens v u h =
+      by-less u 64
+      (λ l. rw (row-told v h) (leads-told (paths v) (shaped .few v) u l))
+      (λ l. sym (leads-other (getD nexts v []) u l)
+      ∙ sym (by-test (leadsTo (paths v) u) (λ q. absurd (omega (arith, listening paths present shaped v u q .speakerSmall))) (λ q. q)))
+
+  pub all-listens : (k : ℕ) → k < 4096 → listensIn nexts k ≡ listensAt paths k
+  unfolding listensIn listensAt
+  all-listens k h = row-listens (k / 64) (k % 64) (omega arith)
+
+  -- so the pairs that are counted are those that listen
+  pub pairs-told : countBelow (listensIn nexts) 4096 ≡ countBelow (listensAt paths) 4096
+  pairs-told = count-ext (listensIn nexts) (listensAt paths) 4096 all-listens
+
+  -- the number of a listening pair is small, and no other has it
+
+  pair-slot : (k : ℕ) → k < 4096 → listensAt paths k ≡ true → slotTo (getD nexts (k / 64) []) (k % 64) < 16
+  unfolding listensIn leadsIn
+  pair-slot k h e = ltb-true _ 16 (and-parts (ltb (k % 64) 64) _ (all-listens k h ∙ e) .1)
+
+  pub number-small : (k : ℕ) → k < 4096 → listensAt paths k ≡ true → pairNumber nexts k < 1024
+  unfolding pairNumber
+  number-small k h e = omega (arith, pair-slot k h e)
+
+  pub number-apart : (j k : ℕ)
+      → j < 4096
+      → k < 4096
+      → listensAt paths j ≡ true
+      → listensAt paths k ≡ true
+      → pairNumber nexts j ≡ pairNumber nexts k
+      → j ≡ k
+  unfolding pairNumber
+  number-apart j k h l e f q =
+      let a = slotTo (getD nexts (j / 64) []) (j % 64) in
+      let b = slotTo (getD nexts (k / 64) []) (k % 64) in
+      let v : j / 64 ≡ k / 64 = omega (arith, pair-slot j h e, pair-slot k l f) in
+      let s : a ≡ b = omega (arith, v) in
+      let u : j % 64 ≡ k % 64 =
+      sym (slot-leads (getD nexts (j / 64) []) (j % 64) (pair-slot j h e))
+      ∙ ap (λ n. getD (getD nexts (j / 64) []) n 0) s ∙ ap (λ n. getD (getD nexts n []) b 0) v
+      ∙ slot-leads (getD nexts (k / 64) []) (k % 64) (pair-slot k l f) in
+      omega (arith, v, u)
