@@ -66,8 +66,8 @@ pub fn choice_byte(nexts: [u8; 16], asked: [u8; 16], heard: &[u8], v: u8) -> u8
 }
 
 // The bytes for the present choices of all vertices.
-pub fn choice_bytes(nexts: [[u8; 16]; 64], asked: [[u8; 16]; 64], heard: &[u8]) -> [u8; 64]
-    ensures { λ r. ⌜ r ≡ choicesBy nexts asked (now (heard .entry)) ⌝ }
+pub fn choice_bytes(nexts: &[[u8; 16]; 64], asked: &[[u8; 16]; 64], heard: &[u8]) -> [u8; 64]
+    ensures { λ r. ⌜ r ≡ choicesBy (now (nexts .entry)) (now (asked .entry)) (now (heard .entry)) ⌝ }
 {
     let mut bytes = [0; 64];
     let mut v = 0;

@@ -21,7 +21,7 @@ use Rattle.lists.specs.RangeLaws.{map-at}
 use Rattle.rules.specs.Table.{Path, nextHop, leadsTo, listens, listensAt}
 use Rattle.laws.specs.Shape.{Shaped}
 use Rattle.laws.specs.MachineLaws.{listening}
-use Rattle.pairs.specs.NextHops.{nextRow, slotTo, leadsIn, listensIn, pairNumber}
+use Rattle.pairs.specs.NextHops.{nextRow, slotTo, leadsIn, hearsFrom, listensIn, pairNumber}
 
 -- the search for a slot
 
@@ -145,22 +145,32 @@ count-add f m (suc n) =
     (λ q. omega (arith, count-out f (m + n) q, count-out (λ k. f (m + k)) n q, count-add f m n))
 
 module _ (nexts : List (List ℕ)) where
-  listens-at : (v u : ℕ) → u < 64 → listensIn nexts (64 * v + u) ≡ leadsIn (getD nexts v []) u
+  -- a vertex listens where its row leads, and nothing else does
+  pub hears-vertex : (v u : ℕ) → v < 64 → leadsIn (getD nexts v []) u ≡ hearsFrom nexts v u
+  unfolding hearsFrom
+  hears-vertex v u h = rw (lt-ltb v 64 h)
+
+  pub hears-other : (v u : ℕ) → 64 ≤ v → false ≡ hearsFrom nexts v u
+  unfolding hearsFrom
+  hears-other v u h = rw (le-ltb v 64 h)
+
+  listens-at : (v u : ℕ) → v < 64 → u < 64 → listensIn nexts (64 * v + u) ≡ leadsIn (getD nexts v []) u
   unfolding listensIn
-  listens-at v u h = rw (told-first v u h, told-second v u h)
+  listens-at v u h l = rw (told-first v u l, told-second v u l) (sym (hears-vertex v u h))
 
   pub pairs-none : 0 ≡ countBelow (listensIn nexts) (64 * 0)
   unfolding countBelow
   pairs-none = refl
 
   pub pairs-more : (v count : ℕ)
+      → v < 64
       → count ≡ countBelow (listensIn nexts) (64 * v)
       → (n : ℕ)
       → n ≡ countBelow (leadsIn (getD nexts v [])) 64
       → count + n ≡ countBelow (listensIn nexts) (64 * (v + 1))
-  pairs-more v count e n q =
+  pairs-more v count h e n q =
       let z : 64 * (v + 1) ≡ 64 * v + 64 = omega arith in
-      rw (z, count-add (listensIn nexts) (64 * v) 64, count-ext (λ u. listensIn nexts (64 * v + u)) (leadsIn (getD nexts v [])) 64 (listens-at v))
+      rw (z, count-add (listensIn nexts) (64 * v) 64, count-ext (λ u. listensIn nexts (64 * v + u)) (leadsIn (getD nexts v [])) 64 (λ u. listens-at v u h))
       (omega arith)
 
 -- over permitted paths
@@ -201,28 +211,36 @@ module _ (paths : ℕ → List Path) (present : ℕ → Bool) (shaped : Shaped p
   pub row-told : (v : ℕ) → v < 64 → getD nexts v [] ≡ nextRow (paths v)
   row-told v h = ap (λ (l : List (List ℕ)). getD l v []) found ∙ tabulate-at (λ w. nextRow (paths w)) 64 v [] h
 
-  -- who listens, by the rows, is who listens
-  pub row-listens : (v u : ℕ) → v < 64 → leadsIn (getD nexts v []) u ≡ listens paths v u
-  unfolding listens
-  row-listens v u h =
-      by-less u 64
-      (λ l. rw (row-told v h) (leads-told (paths v) (shaped .few v) u l))
-      (λ l. sym (leads-other (getD nexts v []) u l)
-      ∙ sym (by-test (leadsTo (paths v) u) (λ q. absurd (omega (arith, listening paths present shaped v u q .speakerSmall))) (λ q. q)))
+  -- what is no vertex does not listen and is not listened to
+  silent : (v u : ℕ) → (listens paths v u ≡ true → ⊥) → listens paths v u ≡ false
+  silent v u f = by-test (listens paths v u) (λ q. absurd (f q)) (λ q. q)
 
-  pub all-listens : (k : ℕ) → k < 4096 → listensIn nexts k ≡ listensAt paths k
+  -- who listens, by the rows, is who listens
+  pub hears-told : (v u : ℕ) → hearsFrom nexts v u ≡ listens paths v u
+  unfolding listens
+  hears-told v u =
+      by-less v 64
+      (λ h. sym (hears-vertex nexts v u h)
+      ∙ by-less u 64
+      (λ l. rw (row-told v h) (leads-told (paths v) (shaped .few v) u l))
+      (λ l. sym (leads-other (getD nexts v []) u l) ∙ sym (silent v u (λ q. omega (arith, listening paths present shaped v u q .speakerSmall)))))
+      (λ h. sym (hears-other nexts v u h) ∙ sym (silent v u (λ q. omega (arith, listening paths present shaped v u q .listenerSmall))))
+
+  pub all-listens : (k : ℕ) → listensIn nexts k ≡ listensAt paths k
   unfolding listensIn listensAt
-  all-listens k h = row-listens (k / 64) (k % 64) (omega arith)
+  all-listens k = hears-told (k / 64) (k % 64)
 
   -- so the pairs that are counted are those that listen
   pub pairs-told : countBelow (listensIn nexts) 4096 ≡ countBelow (listensAt paths) 4096
-  pairs-told = count-ext (listensIn nexts) (listensAt paths) 4096 all-listens
+  pairs-told = count-ext (listensIn nexts) (listensAt paths) 4096 (λ k h. all-listens k)
 
   -- the number of a listening pair is small, and no other has it
 
   pair-slot : (k : ℕ) → k < 4096 → listensAt paths k ≡ true → slotTo (getD nexts (k / 64) []) (k % 64) < 16
-  unfolding listensIn leadsIn
-  pair-slot k h e = ltb-true _ 16 (and-parts (ltb (k % 64) 64) _ (all-listens k h ∙ e) .1)
+  unfolding listensIn hearsFrom leadsIn
+  pair-slot k h e =
+      let r = and-parts (ltb (k / 64) 64) (leadsIn (getD nexts (k / 64) []) (k % 64)) (all-listens k ∙ e) in
+      ltb-true _ 16 (and-parts (ltb (k % 64) 64) _ (r .1) .1)
 
   pub number-small : (k : ℕ) → k < 4096 → listensAt paths k ≡ true → pairNumber nexts k < 1024
   unfolding pairNumber

@@ -21,9 +21,13 @@ slotTo nexts u = elim (firstFrom (λ k. eqb (getD nexts k 0) u) 0 16) [ none ↦
 unfoldable pub leadsIn : List ℕ → ℕ → Bool
 leadsIn nexts u = ltb u 64 && ltb (slotTo nexts u) 16
 
--- who listens, by the pair's number, 64 times v plus u
+-- whether v listens to u
+unfoldable pub hearsFrom : List (List ℕ) → ℕ → ℕ → Bool
+hearsFrom nexts v u = ltb v 64 && leadsIn (getD nexts v []) u
+
+-- the same by the pair's number, 64 times v plus u
 unfoldable pub listensIn : List (List ℕ) → ℕ → Bool
-listensIn nexts k = leadsIn (getD nexts (k / 64) []) (k % 64)
+listensIn nexts k = hearsFrom nexts (k / 64) (k % 64)
 
 -- the number of a listening pair by its slot, below 1,024, from 64 times v plus u
 unfoldable pub pairNumber : List (List ℕ) → ℕ → ℕ

@@ -3,7 +3,7 @@ ghost use mathlib.Core.Path.{_≡_};
 ghost use Rattle.lists.specs.Search.{countBelow};
 ghost use Rattle.lists.specs.Fill.{tabulate};
 ghost use Rattle.pairs.specs.SlotPaths.{slotPaths, heldIn};
-ghost use Rattle.pairs.specs.NextHops.{nextRow, slotTo, leadsIn, listensIn};
+ghost use Rattle.pairs.specs.NextHops.{nextRow, slotTo, leadsIn, hearsFrom, listensIn};
 use record_fields::next_at;
 use slices::wide;
 
@@ -90,9 +90,19 @@ fn count_row(nexts: [u8; 16]) -> u16
     count
 }
 
+// Whether v listens to u; what is no vertex never does.
+pub fn is_listening(nexts: &[[u8; 16]; 64], v: u8, u: u8) -> bool
+    ensures { λ r. ⌜ r ≡ hearsFrom (now (nexts .entry)) v u ⌝ }
+{
+    if VERTICES <= v {
+        return false;
+    }
+    leads_to(nexts[v as usize], u)
+}
+
 // How many pairs listen.
-pub fn count_pairs(nexts: [[u8; 16]; 64]) -> u16
-    ensures { λ r. ⌜ r ≡ countBelow (listensIn nexts) 4096 ⌝ }
+pub fn count_pairs(nexts: &[[u8; 16]; 64]) -> u16
+    ensures { λ r. ⌜ r ≡ countBelow (listensIn (now (nexts .entry))) 4096 ⌝ }
 {
     let mut count = 0;
     let mut v = 0;

@@ -12,13 +12,13 @@ use Rattle.choice.proofs.choice_bytes.Statement.{statement}
 use Rattle.choice.proofs.choice_bytes.Tie as tie
 
 abbrev Inv-loop : tie.InvT-loop
-Inv-loop heard nexts asked bytes₀ v₀ bytes v =
+Inv-loop nexts asked heard bytes₀ v₀ bytes v =
     (v ≤ 64)
     × (length bytes ≡ 64)
     × (take v bytes ≡ tabulate (λ u. choiceByte (getD nexts u []) (getD asked u []) heard u) v)
 
 abbrev μ-loop : tie.MeasureT-loop
-μ-loop heard nexts asked bytes₀ v₀ bytes v = 64 - v
+μ-loop nexts asked heard bytes₀ v₀ bytes v = 64 - v
 
 loop-holds : tie.Need-loop-holds Inv-loop μ-loop
 loop-holds c = (omega arith, length-replicate {A = ℕ} 64 0, sym (tabulate-none _))
@@ -29,14 +29,14 @@ cast-at c = omega arith
 mul-choice-byte : tie.Need-mul-choice-byte Inv-loop μ-loop
 mul-choice-byte c = omega arith
 
-array-copy-out-choice-byte : tie.Need-array-copy-out-choice-byte Inv-loop μ-loop
-array-copy-out-choice-byte c = omega arith
+element-copy-out-choice-byte : tie.Need-element-copy-out-choice-byte Inv-loop μ-loop
+element-copy-out-choice-byte c = omega arith
 
 mul-choice-byte-2 : tie.Need-mul-choice-byte-2 Inv-loop μ-loop
 mul-choice-byte-2 c = omega arith
 
-array-copy-out-choice-byte-2 : tie.Need-array-copy-out-choice-byte-2 Inv-loop μ-loop
-array-copy-out-choice-byte-2 c = omega arith
+element-copy-out-choice-byte-2 : tie.Need-element-copy-out-choice-byte-2 Inv-loop μ-loop
+element-copy-out-choice-byte-2 c = omega arith
 
 choice-byte-requires : tie.Need-choice-byte-requires Inv-loop μ-loop
 choice-byte-requires c κs = omega arith
@@ -72,9 +72,9 @@ choice-bytes-spec =
     loop-holds
     cast-at
     mul-choice-byte
-    array-copy-out-choice-byte
+    element-copy-out-choice-byte
     mul-choice-byte-2
-    array-copy-out-choice-byte-2
+    element-copy-out-choice-byte-2
     choice-byte-requires
     array-write-bytes
     add-v

@@ -21,8 +21,8 @@ loop-holds c = (omega arith, omega arith, pairs-none _)
 mul-count-row : tie.Need-mul-count-row Inv-loop μ-loop
 mul-count-row c = omega arith
 
-array-copy-out-count-row : tie.Need-array-copy-out-count-row Inv-loop μ-loop
-array-copy-out-count-row c = omega arith
+element-copy-out-count-row : tie.Need-element-copy-out-count-row Inv-loop μ-loop
+element-copy-out-count-row c = omega arith
 
 count-row-requires : tie.Need-count-row-requires Inv-loop μ-loop
 count-row-requires c κs = omega arith
@@ -41,7 +41,7 @@ loop-again c =
     let i = c .before .before .before .loop .inv in (
       omega arith,
       omega (arith, row-few _ _ (c .count-row .ensures), i .1),
-      pairs-more _ _ _ (i .2) _ (c .count-row .ensures),
+      pairs-more _ _ _ (omega arith) (i .2) _ (c .count-row .ensures),
     )
 
 returns : tie.Need-returns Inv-loop μ-loop
@@ -58,7 +58,7 @@ count-pairs-spec =
     μ-loop
     loop-holds
     mul-count-row
-    array-copy-out-count-row
+    element-copy-out-count-row
     count-row-requires
     add-count
     add-v
