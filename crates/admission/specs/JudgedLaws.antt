@@ -21,7 +21,9 @@ use Rattle.rules.specs.Answers.{firstBadPair}
 use Rattle.laws.specs.Shape.{Shaped}
 use Rattle.laws.specs.MachineLaws.{bad-same, listening, offset-listens}
 use Rattle.laws.specs.ScheduleLaws.{pairs-length, pairs-at}
-use Rattle.admission.specs.Judged.{placeOr, badMarked, badOffset, marksPair, unmarked, badPair}
+use Rattle.pairs.specs.NextHops.{nextRow, hearsFrom, listensIn}
+use Rattle.pairs.specs.NextHopLaws.{hears-other, hears-told, all-listens}
+use Rattle.admission.specs.Judged.{placeOr, badHeard, badOffset, unheard, badPair}
 
 -- a place that was found, and none
 
@@ -47,102 +49,83 @@ module _ {A : Type 0} (test : ℕ → A → Bool) (l : List A) (n r : ℕ) (long
 
 -- one byte
 
-module _ (listening : List Bool) (most : List ℕ) (k b : ℕ) where
+module _ (nexts : List (List ℕ)) (most : List ℕ) (k b : ℕ) where
   -- 0 is never bad
-  pub byte-silent : b ≡ 0 → false ≡ badMarked listening most k b
-  unfolding badMarked badAt
-  byte-silent e = rw (e, badMarked, badAt)
+  pub byte-silent : b ≡ 0 → false ≡ badHeard nexts most k b
+  unfolding badHeard badAt
+  byte-silent e = rw (e, badHeard, badAt)
 
   -- any other byte is bad where nobody listens
-  pub byte-unheard : b ≢ 0 → getD listening k false ≡ false → true ≡ badMarked listening most k b
-  unfolding badMarked badAt
-  byte-unheard f e = rw (ne-eqb b 0 f, badMarked, badAt, e)
+  byte-deaf : b ≢ 0 → listensIn nexts k ≡ false → true ≡ badHeard nexts most k b
+  unfolding badHeard badAt
+  byte-deaf f e = rw (ne-eqb b 0 f, badHeard, badAt, e)
+
+  pub byte-past : b ≢ 0 → 4096 ≤ k → true ≡ badHeard nexts most k b
+  unfolding listensIn
+  byte-past f h = byte-deaf f (sym (hears-other nexts (k / 64) (k % 64) (omega arith)))
+
+  pub byte-unheard : b ≢ 0 → hearsFrom nexts (k / 64) (k % 64) ≡ false → true ≡ badHeard nexts most k b
+  unfolding listensIn
+  byte-unheard f e = byte-deaf f e
 
   -- and elsewhere where the speaker has fewer paths
-  pub byte-heard : (n : ℕ) → b ≢ 0 → getD listening k false ≡ true → n ≡ getD most (k % 64) 0 → ltb n b ≡ badMarked listening most k b
-  unfolding badMarked badAt
-  byte-heard n f e q = rw (ne-eqb b 0 f, badMarked, badAt, e, q)
+  pub byte-heard : (n : ℕ) → b ≢ 0 → hearsFrom nexts (k / 64) (k % 64) ≡ true → n ≡ getD most (k % 64) 0 → ltb n b ≡ badHeard nexts most k b
+  unfolding badHeard badAt listensIn
+  byte-heard n f e q = rw (ne-eqb b 0 f, badHeard, badAt, e, q)
 
 -- the search for the lowest bad offset, which has come to k
-module _ (listening : List Bool) (most heard : List ℕ) (k : ℕ)
-    (come : firstIn (badMarked listening most) k (drop k heard) ≡ firstIn (badMarked listening most) 0 heard) where
-  pub offset-hit : k < length heard → badMarked listening most k (getD heard k 0) ≡ true → k ≡ badOffset listening most heard
+module _ (nexts : List (List ℕ)) (most heard : List ℕ) (k : ℕ)
+    (come : firstIn (badHeard nexts most) k (drop k heard) ≡ firstIn (badHeard nexts most) 0 heard) where
+  pub offset-hit : k < length heard → badHeard nexts most k (getD heard k 0) ≡ true → k ≡ badOffset nexts most heard
   unfolding badOffset
-  offset-hit h e = sym (place-some _ _ k (seek-hit (badMarked listening most) heard 0 k _ come h e))
+  offset-hit h e = sym (place-some _ _ k (seek-hit (badHeard nexts most) heard 0 k _ come h e))
 
-  pub offset-end : k ≡ length heard → k ≡ badOffset listening most heard
+  pub offset-end : k ≡ length heard → k ≡ badOffset nexts most heard
   unfolding badOffset
-  offset-end e = e ∙ sym (place-none _ _ (seek-end (badMarked listening most) heard 0 k _ come (omega arith)))
-
--- one pair
-
-module _ (listening : List Bool) (v u : ℕ) where
-  -- what is no vertex is not listened to
-  pub pair-outside : 64 ≤ u → false ≡ marksPair listening v u
-  unfolding marksPair
-  pair-outside h = rw (le-ltb u 64 h, marksPair)
-
-  -- any other pair has its mark
-  pub pair-inside : (b : Bool) → u < 64 → b ≡ getD listening (v * 64 + u) false → b ≡ marksPair listening v u
-  unfolding marksPair
-  pair-inside b h e = let z : v * 64 + u ≡ 64 * v + u = omega arith in e ∙ rw (lt-ltb u 64 h, marksPair, z)
+  offset-end e = e ∙ sym (place-none _ _ (seek-end (badHeard nexts most) heard 0 k _ come (omega arith)))
 
 -- the search for the first bad pair, which has come to i
-module _ (listening : List Bool) (s : List ℕ) (i : ℕ)
-    (come : firstIn (unmarked listening) i (drop i (pairsIn s)) ≡ firstIn (unmarked listening) 0 (pairsIn s)) where
+module _ (nexts : List (List ℕ)) (s : List ℕ) (i : ℕ)
+    (come : firstIn (unheard nexts) i (drop i (pairsIn s)) ≡ firstIn (unheard nexts) 0 (pairsIn s)) where
   abbrev none-there : Pair
   none-there = record { listener = 0; speaker = 0 }
 
   look : (b t : Bool)
       → i < length s / 2
-      → b ≡ marksPair listening (getD s (2 * i) 0) (getD s (2 * i + 1) 0)
+      → b ≡ hearsFrom nexts (getD s (2 * i) 0) (getD s (2 * i + 1) 0)
       → not b ≡ t
-      → unmarked listening i (getD (pairsIn s) i none-there) ≡ t
-  unfolding unmarked
+      → unheard nexts i (getD (pairsIn s) i none-there) ≡ t
+  unfolding unheard
   look b t h e q = rw (pairs-at s i none-there h, ← e) q
 
-  module _ (b : Bool) (h : i < length s / 2) (e : b ≡ marksPair listening (getD s (2 * i) 0) (getD s (2 * i + 1) 0)) where
-    pub pair-hit : not b ≡ true → i ≡ badPair listening s
+  module _ (b : Bool) (h : i < length s / 2) (e : b ≡ hearsFrom nexts (getD s (2 * i) 0) (getD s (2 * i + 1) 0)) where
+    pub pair-hit : not b ≡ true → i ≡ badPair nexts s
     unfolding badPair
     pair-hit q =
-        sym (place-some _ _ i (seek-hit (unmarked listening) (pairsIn s) none-there i _ come (rw (pairs-length s) h) (look b true h e q)))
+        sym (place-some _ _ i (seek-hit (unheard nexts) (pairsIn s) none-there i _ come (rw (pairs-length s) h) (look b true h e q)))
 
     pub pair-next : not b ≡ false
-        → firstIn (unmarked listening) (i + 1) (drop (i + 1) (pairsIn s)) ≡ firstIn (unmarked listening) 0 (pairsIn s)
-    pair-next q = seek-next (unmarked listening) (pairsIn s) none-there i _ come (rw (pairs-length s) h) (look b false h e q)
+        → firstIn (unheard nexts) (i + 1) (drop (i + 1) (pairsIn s)) ≡ firstIn (unheard nexts) 0 (pairsIn s)
+    pair-next q = seek-next (unheard nexts) (pairsIn s) none-there i _ come (rw (pairs-length s) h) (look b false h e q)
 
-  pub pair-end : i ≡ length s / 2 → i ≡ badPair listening s
+  pub pair-end : i ≡ length s / 2 → i ≡ badPair nexts s
   unfolding badPair
   pair-end e =
-      e ∙ sym (place-none _ _ (seek-end (unmarked listening) (pairsIn s) none-there i _ come (omega (arith, pairs-length s))))
+      e ∙ sym (place-none _ _ (seek-end (unheard nexts) (pairsIn s) none-there i _ come (omega (arith, pairs-length s))))
 
--- the answers over the marks and counts of a table are the rules'
-
-module _ (paths : ℕ → List Path) (marks : List Bool) (listen : marks ≡ tabulate (listensAt paths) 4096) where
-  mark-at : (k : ℕ) → k < 4096 → getD marks k false ≡ listensAt paths k
-  mark-at k h = rw listen (tabulate-at (listensAt paths) 4096 k false h)
-
-  -- two vertices have a mark of their own
-  mark-inside : (v u : ℕ) → v < 64 → u < 64 → getD marks (v * 64 + u) false ≡ listens paths v u
-  unfolding offsetOf
-  mark-inside v u l h =
-      let z : v * 64 + u ≡ 64 * v + u = omega arith in
-      mark-at (v * 64 + u) (omega arith) ∙ rw z (offset-listens paths (record { listener = v; speaker = u }) h)
-
-  -- past them there is none
-  mark-past : (v u : ℕ) → 64 ≤ v → getD marks (v * 64 + u) false ≡ false
-  mark-past v u h =
-      List·getD-eq-default marks false {n = v * 64 + u} (omega (arith, ap length listen, tabulate-length (listensAt paths) 4096))
-
+-- the answers over the slots and counts of a table are the rules'
+module _ (paths : ℕ → List Path) (present : ℕ → Bool) (shaped : Shaped paths present) (nexts : List (List ℕ))
+    (leads : nexts ≡ tabulate (λ v. nextRow (paths v)) 64) where
   module _ (most heard : List ℕ) (r : ℕ)
-      (speak : most ≡ tabulate (λ u. length (speaks paths u)) 64) (long : length heard ≡ 4096) (found : r ≡ badOffset marks most heard) where
-    same-fault : firstIn (badMarked marks most) 0 heard ≡ heardFault paths heard
-    unfolding heardFault badByte badMarked
+      (speak : most ≡ tabulate (λ u. length (speaks paths u)) 64) (long : length heard ≡ 4096) (found : r ≡ badOffset nexts most heard) where
+    same-fault : firstIn (badHeard nexts most) 0 heard ≡ heardFault paths heard
+    unfolding heardFault badByte badHeard
     same-fault =
-        first-in-ext (badMarked marks most) (badByte paths) heard 0 0
+        first-in-ext (badHeard nexts most) (badByte paths) heard 0 0
         (λ k h. let z : 0 + k ≡ k = omega arith in
-        rw z (bad-same (λ j. getD marks j false) (listensAt paths) (λ u. getD most u 0) (λ u. length (speaks paths u)) k (getD heard k 0)
-        (mark-at k (omega arith)) (rw speak (tabulate-at (λ u. length (speaks paths u)) 64 (k % 64) 0 (omega arith)))))
+        rw z (bad-same (listensIn nexts) (listensAt paths) (λ u. getD most u 0) (λ u. length (speaks paths u)) k (getD heard k 0)
+        (all-listens paths present shaped nexts leads k)
+        (rw speak (tabulate-at (λ u. length (speaks paths u)) 64 (k % 64) 0 (omega arith)))))
 
     -- no bad offset: the state is valid
     pub fault-none : r ≡ 4096 → heardFault paths heard ≡ none
@@ -154,35 +137,19 @@ module _ (paths : ℕ → List Path) (marks : List Bool) (listen : marks ≡ tab
     unfolding badOffset
     fault-some f = sym same-fault ∙ found-some _ heard (length heard) r refl found (λ e. f (e ∙ long))
 
-  module _ (present : ℕ → Bool) (shaped : Shaped paths present) where
-    -- what is no vertex does not listen and is not listened to
-    silent : (v u : ℕ) → (64 ≤ v) ⊎ (64 ≤ u) → listens paths v u ≡ false
-    silent v u o =
-        by-test (listens paths v u)
-        (λ q. let r = listening paths present shaped v u q in
-        ⊎-elim (λ h. absurd (omega (arith, r .listenerSmall))) (λ h. absurd (omega (arith, r .speakerSmall))) o)
-        (λ q. q)
+  module _ (s : List ℕ) (r : ℕ) (found : r ≡ badPair nexts s) where
+    same-pairs : firstIn (unheard nexts) 0 (pairsIn s) ≡ firstBadPair paths (pairsIn s)
+    unfolding firstBadPair unheard
+    same-pairs =
+        first-in-ext (unheard nexts) (λ i p. not (listens paths (p .listener) (p .speaker))) (pairsIn s)
+        (record { listener = 0; speaker = 0 }) 0 (λ k h. ap not (hears-told paths present shaped nexts leads _ _))
 
-    -- the marks say who listens
-    pub marks-listen : (v u : ℕ) → marksPair marks v u ≡ listens paths v u
-    marks-listen v u =
-        by-less u 64
-        (λ h. sym (pair-inside marks v u _ h refl) ∙ by-less v 64 (λ l. mark-inside v u l h) (λ l. mark-past v u l ∙ sym (silent v u (inl l))))
-        (λ h. sym (pair-outside marks v u h) ∙ sym (silent v u (inr h)))
+    -- no bad pair: the schedule listens throughout
+    pub pairs-none : r ≡ length s / 2 → firstBadPair paths (pairsIn s) ≡ none
+    unfolding badPair
+    pairs-none e = sym same-pairs ∙ found-none _ (pairsIn s) (length s / 2) r (pairs-length s) found e
 
-    module _ (s : List ℕ) (r : ℕ) (found : r ≡ badPair marks s) where
-      same-pairs : firstIn (unmarked marks) 0 (pairsIn s) ≡ firstBadPair paths (pairsIn s)
-      unfolding firstBadPair unmarked
-      same-pairs =
-          first-in-ext (unmarked marks) (λ i p. not (listens paths (p .listener) (p .speaker))) (pairsIn s)
-          (record { listener = 0; speaker = 0 }) 0 (λ k h. ap not (marks-listen _ _))
-
-      -- no bad pair: the schedule listens throughout
-      pub pairs-none : r ≡ length s / 2 → firstBadPair paths (pairsIn s) ≡ none
-      unfolding badPair
-      pairs-none e = sym same-pairs ∙ found-none _ (pairsIn s) (length s / 2) r (pairs-length s) found e
-
-      -- otherwise it is the first
-      pub pairs-some : r ≢ length s / 2 → firstBadPair paths (pairsIn s) ≡ some r
-      unfolding badPair
-      pairs-some f = sym same-pairs ∙ found-some _ (pairsIn s) (length s / 2) r (pairs-length s) found f
+    -- otherwise it is the first
+    pub pairs-some : r ≢ length s / 2 → firstBadPair paths (pairsIn s) ≡ some r
+    unfolding badPair
+    pairs-some f = sym same-pairs ∙ found-some _ (pairsIn s) (length s / 2) r (pairs-length s) found f

@@ -2,4 +2,3 @@
 pub mod Judged
 -- The laws.
 pub mod JudgedLaws
-pub mod OneResult

@@ -1,8 +1,12 @@
-// What is judged before the first store, by the marks of the listening pairs and the counts of what each vertex can speak of.
+// What is judged before the first store, by where the slots lead and how many paths each vertex can speak of.
 ghost use mathlib.Core.Path.{_≡_};
 ghost use lib.ListN.{getD};
-ghost use Rattle.admission.specs.Judged.{badMarked, badOffset, marksPair, badPair};
-use slices::is_marked;
+ghost use Rattle.admission.specs.Judged.{badHeard, badOffset, badPair};
+use pairs::is_listening;
+
+// The number of pairs, and of vertices.
+const PAIRS: usize = 4096;
+const VERTICES: usize = 64;
 
 // The number at a place; past the end it is 0.
 fn number_at(numbers: &[usize], at: usize) -> usize
@@ -15,25 +19,28 @@ fn number_at(numbers: &[usize], at: usize) -> usize
 }
 
 // Whether the byte b at the offset k is bad; most bytes of a state are 0, so that is asked first.
-fn is_bad(listening: &[bool], most: &[usize], k: usize, b: u8) -> bool
-    ensures { λ r. ⌜ r ≡ badMarked (now (listening .entry)) (now (most .entry)) k b ⌝ }
+fn is_bad(nexts: &[[u8; 16]; 64], most: &[usize], k: usize, b: u8) -> bool
+    ensures { λ r. ⌜ r ≡ badHeard (now (nexts .entry)) (now (most .entry)) k b ⌝ }
 {
     if b == 0 {
         return false;
     }
-    if !is_marked(listening, k) {
+    if PAIRS <= k {
         return true;
     }
-    number_at(most, k % 64) < b as usize
+    if !is_listening(nexts, (k / VERTICES) as u8, (k % VERTICES) as u8) {
+        return true;
+    }
+    number_at(most, k % VERTICES) < b as usize
 }
 
 // The lowest bad offset, the state's length where none is.
-pub fn bad_offset(listening: &[bool], most: &[usize], heard: &[u8]) -> usize
-    ensures { λ r. ⌜ r ≡ badOffset (now (listening .entry)) (now (most .entry)) (now (heard .entry)) ⌝ }
+pub fn bad_offset(nexts: &[[u8; 16]; 64], most: &[usize], heard: &[u8]) -> usize
+    ensures { λ r. ⌜ r ≡ badOffset (now (nexts .entry)) (now (most .entry)) (now (heard .entry)) ⌝ }
 {
     let mut k = 0;
     while k < heard.len() {
-        if is_bad(listening, most, k, heard[k]) {
+        if is_bad(nexts, most, k, heard[k]) {
             return k;
         }
         k += 1;
@@ -41,25 +48,15 @@ pub fn bad_offset(listening: &[bool], most: &[usize], heard: &[u8]) -> usize
     k
 }
 
-// Whether v listens to u, by the marks; what is no vertex never does.
-pub fn is_listening(listening: &[bool], v: u8, u: u8) -> bool
-    ensures { λ r. ⌜ r ≡ marksPair (now (listening .entry)) v u ⌝ }
-{
-    if 64 <= u {
-        return false;
-    }
-    is_marked(listening, v as usize * 64 + u as usize)
-}
-
 // The number of the first pair that does not listen, the number of pairs where all do.
-pub fn bad_pair(listening: &[bool], schedule: &[u8]) -> usize
-    ensures { λ r. ⌜ r ≡ badPair (now (listening .entry)) (now (schedule .entry)) ⌝ }
+pub fn bad_pair(nexts: &[[u8; 16]; 64], schedule: &[u8]) -> usize
+    ensures { λ r. ⌜ r ≡ badPair (now (nexts .entry)) (now (schedule .entry)) ⌝ }
 {
     let count = schedule.len() / 2;
     let mut i = 0;
     while i < count {
         let at = 2 * i;
-        if !is_listening(listening, schedule[at], schedule[at + 1]) {
+        if !is_listening(nexts, schedule[at], schedule[at + 1]) {
             return i;
         }
         i += 1;

@@ -7,17 +7,17 @@ use borrow.Author.Needs.{needs}
 use lib.ListN.{length, drop}
 use Rattle.lists.specs.Search.{firstIn}
 use Rattle.lists.specs.ListLaws.{seek-next}
-use Rattle.admission.specs.Judged.{badMarked}
+use Rattle.admission.specs.Judged.{badHeard}
 use Rattle.admission.specs.JudgedLaws.{offset-hit, offset-end}
 use Rattle.admission.proofs.bad_offset.Statement.{statement}
 use Rattle.admission.proofs.bad_offset.Tie as tie
 
 abbrev Inv-loop : tie.InvT-loop
-Inv-loop listening most heard k₀ k =
-    (k ≤ length heard) × (firstIn (badMarked listening most) k (drop k heard) ≡ firstIn (badMarked listening most) 0 heard)
+Inv-loop nexts most heard k₀ k =
+    (k ≤ length heard) × (firstIn (badHeard nexts most) k (drop k heard) ≡ firstIn (badHeard nexts most) 0 heard)
 
 abbrev μ-loop : tie.MeasureT-loop
-μ-loop listening most heard k₀ k = length heard - k
+μ-loop nexts most heard k₀ k = length heard - k
 
 loop-holds : tie.Need-loop-holds Inv-loop μ-loop
 loop-holds c = (omega arith, refl)

@@ -7,19 +7,19 @@ use borrow.Author.Needs.{needs}
 use lib.ListN.{length, drop}
 use Rattle.lists.specs.Search.{firstIn}
 use Rattle.rules.specs.Run.{pairsIn}
-use Rattle.admission.specs.Judged.{unmarked}
+use Rattle.admission.specs.Judged.{unheard}
 use Rattle.admission.specs.JudgedLaws.{pair-hit, pair-next, pair-end}
 use Rattle.admission.proofs.bad_pair.Statement.{statement}
 use Rattle.admission.proofs.bad_pair.Tie as tie
 
 abbrev Inv-loop : tie.InvT-loop
-Inv-loop listening schedule count i₀ i =
+Inv-loop nexts schedule count i₀ i =
     (count ≡ length schedule / 2)
     × (i ≤ count)
-    × (firstIn (unmarked listening) i (drop i (pairsIn schedule)) ≡ firstIn (unmarked listening) 0 (pairsIn schedule))
+    × (firstIn (unheard nexts) i (drop i (pairsIn schedule)) ≡ firstIn (unheard nexts) 0 (pairsIn schedule))
 
 abbrev μ-loop : tie.MeasureT-loop
-μ-loop listening schedule count i₀ i = count - i
+μ-loop nexts schedule count i₀ i = count - i
 
 loop-holds : tie.Need-loop-holds Inv-loop μ-loop
 loop-holds c = (refl, omega arith, refl)

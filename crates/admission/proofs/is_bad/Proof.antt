@@ -3,28 +3,48 @@
 use mathlib.Core.Path.{sym, _∙_}
 use borrow.Author.Needs.{needs}
 use borrow.Author.Tests.{not-true, not-false}
-use Rattle.admission.specs.JudgedLaws.{byte-silent, byte-unheard, byte-heard}
+use Rattle.admission.specs.JudgedLaws.{byte-silent, byte-past, byte-unheard, byte-heard}
 use Rattle.admission.proofs.is_bad.Statement.{statement}
 use Rattle.admission.proofs.is_bad.Tie as tie
 
 returns : tie.Need-returns
 returns c = byte-silent _ _ _ _ (c .if1 .taken)
 
-is-marked-requires : tie.Need-is-marked-requires
-is-marked-requires c κs = search needs
-
 returns-2 : tie.Need-returns-2
-returns-2 c =
-    byte-unheard _ _ _ _ (c .before .before .if1 .left)
-    (sym (c .before .is-marked .ensures) ∙ not-true _ (c .if2 .taken))
+returns-2 c = byte-past _ _ _ _ (c .before .if1 .left) (c .if2 .taken)
+
+cast-is-listening : tie.Need-cast-is-listening
+cast-is-listening c = search needs
+
+cast-is-listening-2 : tie.Need-cast-is-listening-2
+cast-is-listening-2 c = search needs
+
+is-listening-requires : tie.Need-is-listening-requires
+is-listening-requires c κs = search needs
+
+returns-3 : tie.Need-returns-3
+returns-3 c =
+    let at-ask = c .before in
+    byte-unheard _ _ _ _ (at-ask .before .before .if1 .left) (sym (at-ask .is-listening .ensures) ∙ not-true _ (c .if3 .taken))
 
 number-at-requires : tie.Need-number-at-requires
 number-at-requires c κs = search needs
 
-returns-3 : tie.Need-returns-3
-returns-3 c =
-    let a = c .before .before in
-    byte-heard _ _ _ _ _ (a .before .if1 .left) (sym (a .is-marked .ensures) ∙ not-false _ (c .before .if2 .left)) (c .number-at .ensures)
+returns-4 : tie.Need-returns-4
+returns-4 c =
+    let at-ask = c .before .before in
+    byte-heard _ _ _ _ _ (at-ask .before .before .if1 .left) (sym (at-ask .is-listening .ensures) ∙ not-false _ (c .before .if3 .left))
+    (c .number-at .ensures)
 
 pub is-bad-spec : {M : Type 1} → statement M
-is-bad-spec = tie.close (tie.spec returns is-marked-requires returns-2 number-at-requires returns-3)
+is-bad-spec =
+    tie.close
+    (tie.spec
+    returns
+    returns-2
+    cast-is-listening
+    cast-is-listening-2
+    is-listening-requires
+    returns-3
+    number-at-requires
+    returns-4)
