@@ -20,7 +20,7 @@ use Rattle.rules.specs.Refusals.{refusal}
 use Rattle.laws.specs.Shape.{Shaped}
 use Rattle.laws.specs.ShapeLaws.{shaped}
 use Rattle.laws.specs.Blocks.{few-records, owned-few, owned-below}
-use Rattle.pairs.specs.SlotPaths.{filled, slotPaths, heldIn, FilledTo}
+use Rattle.pairs.specs.SlotPaths.{filled, slotPaths, heldIn, slotted, FilledTo}
 
 -- the records of a row
 
@@ -138,9 +138,22 @@ no-slots : (t : List ℕ) → slotPaths t [] ≡ []
 unfolding slotPaths filled
 no-slots t = refl
 
+-- the slots of a table
+pub slotted-told : (t : List ℕ) (slots : List (List ℕ)) → slots ≡ slotsOf t (min (records t) 1008) → heldIn t slots ≡ slotted t
+unfolding slotted
+slotted-told t slots e = ap (heldIn t) e
+
+-- past the vertices there is none
+pub slotted-past : (t : List ℕ) (v : ℕ) → 64 ≤ v → slotted t v ≡ []
+unfolding slotted heldIn slotsOf
+slotted-past t v h =
+    ap (slotPaths t) (List·getD-eq-default (slotsOf t (min (records t) 1008)) [] {n = v}
+    (omega (arith, tabulate-length (λ v. padded 16 65535 (owned t (min (records t) 1008) v)) 64))) ∙ no-slots t
+
 -- the slots of an accepted table
 
-module _ (t : List ℕ) (e : refusal t ≡ none) (slots : List (List ℕ)) (s : slots ≡ slotsOf t (min (records t) 1008)) where
+module _ (t : List ℕ) (e : refusal t ≡ none) where
+
   -- past the vertices nobody has a path
   none-past : (v : ℕ) → 64 ≤ v → pathsOf t v ≡ []
   none-past v h =
@@ -152,23 +165,19 @@ module _ (t : List ℕ) (e : refusal t ≡ none) (slots : List (List ℕ)) (s : 
       no-elements [] z = refl
       no-elements (x ∷ xs) z = absurd (omega arith)
 
-  slots-size : length slots ≡ 64
-  unfolding slotsOf
-  slots-size = ap length s ∙ tabulate-length (λ v. padded 16 65535 (owned t (min (records t) 1008) v)) 64
-
-  held-at : (v : ℕ) → heldIn t slots v ≡ pathsOf t v
-  unfolding heldIn slotPaths slotsOf pathsOf pathsBelow
+  held-at : (v : ℕ) → slotted t v ≡ pathsOf t v
+  unfolding slotted heldIn slotPaths slotsOf pathsOf pathsBelow
   held-at v =
       let o = owned t (records t) v in
       let n : min (records t) 1008 ≡ records t = omega (arith, few-records t e) in
       by-less v 64
-      (λ h. let r : getD slots v [] ≡ padded 16 65535 o =
-      ap (λ (l : List (List ℕ)). getD l v []) (s ∙ ap (slotsOf t) n)
+      (λ h. let r : getD (slotsOf t (min (records t) 1008)) v [] ≡ padded 16 65535 o =
+      ap (λ (l : List (List ℕ)). getD l v []) (ap (slotsOf t) n)
       ∙ tabulate-at (λ w. padded 16 65535 (owned t (records t) w)) 64 v [] h in
       ap (λ (l : List ℕ). map (pathAt t) (filled l)) (r ∙ padded-whole 65535 16 o (owned-few t e v))
       ∙ ap (map (pathAt t)) (filled-front o (16 - length o) (λ k l q. omega (arith, owned-below t e v k l, few-records t e))))
-      (λ h. ap (slotPaths t) (List·getD-eq-default slots [] {n = v} (omega (arith, slots-size))) ∙ no-slots t ∙ sym (none-past v h))
+      (λ h. slotted-past t v h ∙ sym (none-past v h))
 
   -- hold its permitted paths
-  pub held-paths : heldIn t slots ≡ pathsOf t
-  held-paths = λ j v. held-at v j
+  pub slotted-paths : slotted t ≡ pathsOf t
+  slotted-paths = λ j v. held-at v j

@@ -2,10 +2,11 @@
 ghost use mathlib.Core.Path.{_≡_};
 ghost use Rattle.lists.specs.Search.{countBelow};
 ghost use Rattle.lists.specs.Fill.{tabulate};
-ghost use Rattle.pairs.specs.SlotPaths.{slotPaths, heldIn};
+ghost use Rattle.pairs.specs.SlotPaths.{slotPaths, heldIn, slotted};
 ghost use Rattle.pairs.specs.NextHops.{nextRow, slotTo, leadsIn, hearsFrom, listensIn};
 use record_fields::next_at;
 use slices::wide;
+use table_facts::slots_of;
 
 // An empty slot.
 const NO_RECORD: u16 = 65535;
@@ -17,7 +18,7 @@ const VERTICES: u8 = 64;
 const SLOTS: usize = 16;
 
 // The next hop of each slot's path, 255 where the slot is empty.
-pub fn next_row(table: &[u8], row: [u16; 16]) -> [u8; 16]
+fn next_row(table: &[u8], row: [u16; 16]) -> [u8; 16]
     ensures { λ r. ⌜ r ≡ nextRow (slotPaths (now (table .entry)) row) ⌝ }
 {
     let mut nexts = [NOBODY; 16];
@@ -33,8 +34,8 @@ pub fn next_row(table: &[u8], row: [u16; 16]) -> [u8; 16]
     nexts
 }
 
-// The same for all vertices.
-pub fn next_hops(table: &[u8], slots: [[u16; 16]; 64]) -> [[u8; 16]; 64]
+// The same for all vertices' slots.
+fn next_rows(table: &[u8], slots: [[u16; 16]; 64]) -> [[u8; 16]; 64]
     ensures { λ r. ⌜ r ≡ tabulate (λ v. nextRow (heldIn (now (table .entry)) slots v)) 64 ⌝ }
 {
     let mut nexts = [[NOBODY; 16]; 64];
@@ -44,6 +45,13 @@ pub fn next_hops(table: &[u8], slots: [[u16; 16]; 64]) -> [[u8; 16]; 64]
         v += 1;
     }
     nexts
+}
+
+// The next hops of all paths of a table, by vertex and slot.
+pub fn next_hops(table: &[u8]) -> [[u8; 16]; 64]
+    ensures { λ r. ⌜ r ≡ tabulate (λ v. nextRow (slotted (now (table .entry)) v)) 64 ⌝ }
+{
+    next_rows(table, slots_of(table))
 }
 
 // The first slot that leads to u, 16 where none does.
@@ -61,7 +69,7 @@ pub fn slot_to(nexts: [u8; 16], u: u8) -> usize
 }
 
 // Whether a slot leads to the vertex u; what is no vertex is never led to.
-pub fn leads_to(nexts: [u8; 16], u: u8) -> bool
+fn leads_to(nexts: [u8; 16], u: u8) -> bool
     ensures { λ r. ⌜ r ≡ leadsIn nexts u ⌝ }
 {
     if VERTICES <= u {

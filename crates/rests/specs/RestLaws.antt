@@ -3,22 +3,23 @@ use mathlib.Core.Path.{_≡_, refl, sym, ap, _∙_}
 use mathlib.Core.Logic.{_≢_}
 use mathlib.Core.Bool.{Bool, true, false}
 use mathlib.Core.List.{List, [], _∷_}
-use Prim.Native.Nat.{ℕ, _+_, _<_, _≤_}
+use Prim.Native.Nat.{ℕ, _+_, _<_, _≤_, min}
 use native.Mathlib.Omega.{arith}
 use native.Mathlib.Nat.{not-suc-le-zero}
-use lib.ListN.{length, getD, List·getD-eq-default}
+use lib.ListN.{length, getD, replicate, List·getD-eq-default}
 use mir.Val.{boolByte}
 use Rattle.lists.specs.Search.{same}
 use Rattle.lists.specs.Tests.{by-test, by-equal}
 use Rattle.lists.specs.ListLaws.{same-eq, differs}
-use Rattle.rules.specs.Table.{Path, pathAt, nextHop, rest}
+use Rattle.lists.specs.Fill.{padded}
+use Rattle.rules.specs.Table.{Path, records, pathAt, slotsOf, nextHop, rest}
 use Rattle.rules.specs.Report.{placeIn}
 use Rattle.rules.specs.Machine.{byteFor}
 use Rattle.laws.specs.MachineLaws.{speaks-destination, speaks-other}
 use Rattle.laws.specs.PathLaws.{place-nil, place-first, place-absent}
-use Rattle.pairs.specs.SlotPaths.{filled, slotPaths, heldIn}
-use Rattle.pairs.specs.SlotPathLaws.{paths-stop, paths-on, paths-most}
-use Rattle.rests.specs.Rests.{askedFor, Scanned}
+use Rattle.pairs.specs.SlotPaths.{filled, slotPaths, heldIn, slotted}
+use Rattle.pairs.specs.SlotPathLaws.{paths-stop, paths-on, paths-most, slotted-told, slotted-past}
+use Rattle.rests.specs.Rests.{askedFor, askedRow, Scanned}
 
 -- the place of a path among those of a row of slots, in a search that has come to slot k
 
@@ -96,3 +97,16 @@ module _ (t : List ℕ) (slots : List (List ℕ)) (size : length slots ≡ 64) (
       asked-told 0 (asked-other (λ w. slotPaths t (getD slots u [])) u (rest p) (rest p) refl (λ z. omega arith) 0
       (sym (ap (λ (l : List ℕ). placeIn (rest p) (slotPaths t l)) (List·getD-eq-default slots [] {n = u} (omega arith))
       ∙ place-nil (rest p))))
+
+-- what is no vertex hears nothing
+pub asked-none : (t : List ℕ) (v : ℕ) → 64 ≤ v → replicate 16 0 ≡ askedRow (slotted t) (slotted t v)
+unfolding askedRow padded
+asked-none t v h = sym (ap (λ (own : List Path). askedRow (slotted t) own) (slotted-past t v h))
+
+-- a vertex's row is that of its slots
+pub asked-slotted : (t : List ℕ) (slots : List (List ℕ)) (v : ℕ) (asked : List ℕ)
+    → slots ≡ slotsOf t (min (records t) 1008)
+    → asked ≡ askedRow (heldIn t slots) (slotPaths t (getD slots v []))
+    → asked ≡ askedRow (slotted t) (slotted t v)
+unfolding heldIn
+asked-slotted t slots v asked s e = e ∙ ap (λ (held : ℕ → List Path). askedRow held (held v)) (slotted-told t slots s)

@@ -4,12 +4,13 @@ ghost use Rattle.lists.specs.Fill.{tabulate};
 ghost use Rattle.rules.specs.Table.{rest};
 ghost use Rattle.rules.specs.Report.{placeIn};
 ghost use Rattle.rules.specs.Machine.{byteFor};
-ghost use Rattle.pairs.specs.SlotPaths.{slotPaths, heldIn};
+ghost use Rattle.pairs.specs.SlotPaths.{slotPaths, heldIn, slotted};
 ghost use Rattle.rests.specs.Rests.{askedRow};
 use record_fields::next_at;
 use record_fields::path_at;
 use slices::same_parts;
 use slices::wide;
+use table_facts::slots_of;
 
 // An empty slot.
 const NO_RECORD: u16 = 65535;
@@ -56,7 +57,7 @@ fn asked_byte(table: &[u8], path: &[u8], u: u8, row: [u16; 16]) -> u8
 }
 
 // What has to be heard for the path of each slot of a row; 0 where the rest is no path of the next hop, and in empty slots.
-pub fn asked_row(table: &[u8], slots: [[u16; 16]; 64], row: [u16; 16]) -> [u8; 16]
+fn asked_row(table: &[u8], slots: [[u16; 16]; 64], row: [u16; 16]) -> [u8; 16]
     ensures { λ r. ⌜ r ≡ askedRow (heldIn (now (table .entry)) slots) (slotPaths (now (table .entry)) row) ⌝ }
 {
     let mut asked = [0; 16];
@@ -77,8 +78,8 @@ pub fn asked_row(table: &[u8], slots: [[u16; 16]; 64], row: [u16; 16]) -> [u8; 1
     asked
 }
 
-// The same for all vertices.
-pub fn asked_bytes(table: &[u8], slots: [[u16; 16]; 64]) -> [[u8; 16]; 64]
+// The same for all vertices' slots.
+fn asked_rows(table: &[u8], slots: [[u16; 16]; 64]) -> [[u8; 16]; 64]
     ensures { λ r. ⌜ r ≡ tabulate (λ v. askedRow (heldIn (now (table .entry)) slots) (heldIn (now (table .entry)) slots v)) 64 ⌝ }
 {
     let mut asked = [[0; 16]; 64];
@@ -88,4 +89,22 @@ pub fn asked_bytes(table: &[u8], slots: [[u16; 16]; 64]) -> [[u8; 16]; 64]
         v += 1;
     }
     asked
+}
+
+// What has to be heard for all paths of a table, by vertex and slot.
+pub fn asked_bytes(table: &[u8]) -> [[u8; 16]; 64]
+    ensures { λ r. ⌜ r ≡ tabulate (λ v. askedRow (slotted (now (table .entry))) (slotted (now (table .entry)) v)) 64 ⌝ }
+{
+    asked_rows(table, slots_of(table))
+}
+
+// What vertex v has to hear; nothing where it is no vertex.
+pub fn asked_of(table: &[u8], v: u8) -> [u8; 16]
+    ensures { λ r. ⌜ r ≡ askedRow (slotted (now (table .entry))) (slotted (now (table .entry)) v) ⌝ }
+{
+    if VERTICES <= v {
+        return [0; 16];
+    }
+    let slots = slots_of(table);
+    asked_row(table, slots, slots[v as usize])
 }
