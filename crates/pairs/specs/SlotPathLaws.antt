@@ -9,11 +9,11 @@ use native.Mathlib.Nat.{not-suc-le-zero}
 use native.Mathlib.Numerals.{add-one}
 use lib.ListN.{length, getD, set, take, replicate, length-map, List·getD-eq-default}
 use lib.Seq.{take-all, take-suc, length-take-le, set-getD}
-use borrow.Author.Tests.{eq-eqb, ne-eqb}
+use borrow.Author.Tests.{eq-eqb, ne-eqb, lt-ltb, le-ltb}
 use Rattle.lists.specs.Tests.{by-equal, by-less}
 use Rattle.lists.specs.NumberLaws.{by-number}
 use Rattle.lists.specs.Fill.{padded, tabulate}
-use Rattle.lists.specs.FillLaws.{tabulate-at, tabulate-length, padded-whole, padded-at, padded-more}
+use Rattle.lists.specs.FillLaws.{tabulate-at, padded-whole, padded-at, padded-more}
 use Rattle.lists.specs.RangeLaws.{map-at}
 use Rattle.rules.specs.Table.{Path, records, pathAt, owned, pathsOf, pathsBelow, slotsOf}
 use Rattle.rules.specs.Refusals.{refusal}
@@ -134,21 +134,21 @@ module _ {f : Path → ℕ} {d : ℕ} {t row : List ℕ} where
         ap (λ (l : List ℕ). getD l k d) (a .bytes) ∙ padded-at d 16 ps k h ∙ List·getD-eq-default ps d {n = k} (omega arith) in
         rw (ap (set out k) (sym z) ∙ set-getD out k d) at (filled-to-more d h e q)
 
-no-slots : (t : List ℕ) → slotPaths t [] ≡ []
-unfolding slotPaths filled
-no-slots t = refl
+-- the paths of a vertex are those of its slots, and what is no vertex has none
+
+module _ (t : List ℕ) (slots : List (List ℕ)) (v : ℕ) where
+  pub held-vertex : v < 64 → slotPaths t (getD slots v []) ≡ heldIn t slots v
+  unfolding heldIn
+  held-vertex h = rw (lt-ltb v 64 h, heldIn)
+
+  pub held-other : 64 ≤ v → heldIn t slots v ≡ []
+  unfolding heldIn
+  held-other h = rw (le-ltb v 64 h, heldIn)
 
 -- the slots of a table
 pub slotted-told : (t : List ℕ) (slots : List (List ℕ)) → slots ≡ slotsOf t (min (records t) 1008) → heldIn t slots ≡ slotted t
 unfolding slotted
 slotted-told t slots e = ap (heldIn t) e
-
--- past the vertices there is none
-pub slotted-past : (t : List ℕ) (v : ℕ) → 64 ≤ v → slotted t v ≡ []
-unfolding slotted heldIn slotsOf
-slotted-past t v h =
-    ap (slotPaths t) (List·getD-eq-default (slotsOf t (min (records t) 1008)) [] {n = v}
-    (omega (arith, tabulate-length (λ v. padded 16 65535 (owned t (min (records t) 1008) v)) 64))) ∙ no-slots t
 
 -- the slots of an accepted table
 
@@ -166,7 +166,7 @@ module _ (t : List ℕ) (e : refusal t ≡ none) where
       no-elements (x ∷ xs) z = absurd (omega arith)
 
   held-at : (v : ℕ) → slotted t v ≡ pathsOf t v
-  unfolding slotted heldIn slotPaths slotsOf pathsOf pathsBelow
+  unfolding slotted slotPaths slotsOf pathsOf pathsBelow
   held-at v =
       let o = owned t (records t) v in
       let n : min (records t) 1008 ≡ records t = omega (arith, few-records t e) in
@@ -174,9 +174,10 @@ module _ (t : List ℕ) (e : refusal t ≡ none) where
       (λ h. let r : getD (slotsOf t (min (records t) 1008)) v [] ≡ padded 16 65535 o =
       ap (λ (l : List (List ℕ)). getD l v []) (ap (slotsOf t) n)
       ∙ tabulate-at (λ w. padded 16 65535 (owned t (records t) w)) 64 v [] h in
-      ap (λ (l : List ℕ). map (pathAt t) (filled l)) (r ∙ padded-whole 65535 16 o (owned-few t e v))
+      sym (held-vertex t (slotsOf t (min (records t) 1008)) v h)
+      ∙ ap (λ (l : List ℕ). map (pathAt t) (filled l)) (r ∙ padded-whole 65535 16 o (owned-few t e v))
       ∙ ap (map (pathAt t)) (filled-front o (16 - length o) (λ k l q. omega (arith, owned-below t e v k l, few-records t e))))
-      (λ h. slotted-past t v h ∙ sym (none-past v h))
+      (λ h. held-other t (slotsOf t (min (records t) 1008)) v h ∙ sym (none-past v h))
 
   -- hold its permitted paths
   pub slotted-paths : slotted t ≡ pathsOf t

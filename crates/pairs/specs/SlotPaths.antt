@@ -4,7 +4,7 @@ use mathlib.Core.Path.{_≡_}
 use mathlib.Core.Bool.{true, false}
 use mathlib.Core.List.{List, [], _∷_, map}
 use lib.ListN.{length, getD, take}
-use lib.Dec.{eqb}
+use lib.Dec.{eqb, ltb}
 use Rattle.lists.specs.Fill.{padded}
 use Rattle.rules.specs.Table.{Path, records, pathAt, slotsOf}
 
@@ -17,9 +17,9 @@ filled (i ∷ is) = elim (eqb i 65535) [ true ↦ [] | false ↦ i ∷ filled is
 unfoldable pub slotPaths : List ℕ → List ℕ → List Path
 slotPaths t row = map (pathAt t) (filled row)
 
--- the paths that each vertex's slots hold
+-- the paths that each vertex's slots hold; what is no vertex has none
 unfoldable pub heldIn : List ℕ → List (List ℕ) → ℕ → List Path
-heldIn t slots v = slotPaths t (getD slots v [])
+heldIn t slots v = elim (ltb v 64) [ true ↦ slotPaths t (getD slots v []) | false ↦ [] ]
 
 -- the paths that the slots of a table hold, of its first 1,008 records
 unfoldable pub slotted : List ℕ → ℕ → List Path

@@ -6,19 +6,18 @@ use mathlib.Core.List.{List, [], _∷_}
 use Prim.Native.Nat.{ℕ, _+_, _<_, _≤_, min}
 use native.Mathlib.Omega.{arith}
 use native.Mathlib.Nat.{not-suc-le-zero}
-use lib.ListN.{length, getD, replicate, List·getD-eq-default}
+use lib.ListN.{length, getD}
 use mir.Val.{boolByte}
 use Rattle.lists.specs.Search.{same}
 use Rattle.lists.specs.Tests.{by-test, by-equal}
 use Rattle.lists.specs.ListLaws.{same-eq, differs}
-use Rattle.lists.specs.Fill.{padded}
 use Rattle.rules.specs.Table.{Path, records, pathAt, slotsOf, nextHop, rest}
 use Rattle.rules.specs.Report.{placeIn}
 use Rattle.rules.specs.Machine.{byteFor}
 use Rattle.laws.specs.MachineLaws.{speaks-destination, speaks-other}
 use Rattle.laws.specs.PathLaws.{place-nil, place-first, place-absent}
-use Rattle.pairs.specs.SlotPaths.{filled, slotPaths, heldIn, slotted}
-use Rattle.pairs.specs.SlotPathLaws.{paths-stop, paths-on, paths-most, slotted-told, slotted-past}
+use Rattle.pairs.specs.SlotPaths.{slotPaths, heldIn, slotted}
+use Rattle.pairs.specs.SlotPathLaws.{paths-stop, paths-on, paths-most, held-vertex, held-other, slotted-told}
 use Rattle.rests.specs.Rests.{askedFor, askedRow, Scanned}
 
 -- the place of a path among those of a row of slots, in a search that has come to slot k
@@ -82,31 +81,28 @@ own-byte f g u p h =
     (λ z. rw (z, speaks-destination f, speaks-destination g))
     (λ z. rw (speaks-other f u z, speaks-other g u z, h z))
 
-module _ (t : List ℕ) (slots : List (List ℕ)) (size : length slots ≡ 64) (p : Path) (u : ℕ) (next : u ≡ nextHop p) where
+module _ (t : List ℕ) (slots : List (List ℕ)) (p : Path) (u : ℕ) (next : u ≡ nextHop p) where
   -- the byte of a row of slots is that of all slots
-  pub asked-told : (b : ℕ) → b ≡ byteFor (λ w. slotPaths t (getD slots u [])) u (rest p) → b ≡ askedFor (heldIn t slots) p
-  unfolding askedFor heldIn
-  asked-told b e =
-      e ∙ own-byte (λ w. slotPaths t (getD slots u [])) (heldIn t slots) u (rest p) (λ z. refl)
+  pub asked-told : u < 64 → (b : ℕ) → b ≡ byteFor (λ w. slotPaths t (getD slots u [])) u (rest p) → b ≡ askedFor (heldIn t slots) p
+  unfolding askedFor
+  asked-told h b e =
+      e ∙ own-byte (λ w. slotPaths t (getD slots u [])) (heldIn t slots) u (rest p) (λ z. held-vertex t slots u h)
       ∙ ap (λ w. byteFor (heldIn t slots) w (rest p)) next
 
   -- nothing is heard from what is no vertex
   pub asked-past : 64 ≤ u → 0 ≡ askedFor (heldIn t slots) p
-  unfolding askedFor heldIn byteFor slotPaths filled
+  unfolding askedFor
   asked-past h =
-      asked-told 0 (asked-other (λ w. slotPaths t (getD slots u [])) u (rest p) (rest p) refl (λ z. omega arith) 0
-      (sym (ap (λ (l : List ℕ). placeIn (rest p) (slotPaths t l)) (List·getD-eq-default slots [] {n = u} (omega arith))
-      ∙ place-nil (rest p))))
-
--- what is no vertex hears nothing
-pub asked-none : (t : List ℕ) (v : ℕ) → 64 ≤ v → replicate 16 0 ≡ askedRow (slotted t) (slotted t v)
-unfolding askedRow padded
-asked-none t v h = sym (ap (λ (own : List Path). askedRow (slotted t) own) (slotted-past t v h))
+      asked-other (heldIn t slots) u (rest p) (rest p) refl (λ z. omega arith) 0
+      (sym (ap (placeIn (rest p)) (held-other t slots u h) ∙ place-nil (rest p)))
+      ∙ ap (λ w. byteFor (heldIn t slots) w (rest p)) next
 
 -- a vertex's row is that of its slots
 pub asked-slotted : (t : List ℕ) (slots : List (List ℕ)) (v : ℕ) (asked : List ℕ)
     → slots ≡ slotsOf t (min (records t) 1008)
+    → v < 64
     → asked ≡ askedRow (heldIn t slots) (slotPaths t (getD slots v []))
     → asked ≡ askedRow (slotted t) (slotted t v)
-unfolding heldIn
-asked-slotted t slots v asked s e = e ∙ ap (λ (held : ℕ → List Path). askedRow held (held v)) (slotted-told t slots s)
+asked-slotted t slots v asked s h e =
+    e ∙ ap (askedRow (heldIn t slots)) (held-vertex t slots v h)
+    ∙ ap (λ (held : ℕ → List Path). askedRow held (held v)) (slotted-told t slots s)

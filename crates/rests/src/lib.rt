@@ -57,8 +57,8 @@ fn asked_byte(table: &[u8], path: &[u8], u: u8, row: [u16; 16]) -> u8
 }
 
 // What has to be heard for the path of each slot of a row; 0 where the rest is no path of the next hop, and in empty slots.
-fn asked_row(table: &[u8], slots: [[u16; 16]; 64], row: [u16; 16]) -> [u8; 16]
-    ensures { λ r. ⌜ r ≡ askedRow (heldIn (now (table .entry)) slots) (slotPaths (now (table .entry)) row) ⌝ }
+pub fn asked_row(table: &[u8], slots: &[[u16; 16]; 64], row: [u16; 16]) -> [u8; 16]
+    ensures { λ r. ⌜ r ≡ askedRow (heldIn (now (table .entry)) (now (slots .entry))) (slotPaths (now (table .entry)) row) ⌝ }
 {
     let mut asked = [0; 16];
     let mut k = 0;
@@ -85,7 +85,8 @@ fn asked_rows(table: &[u8], slots: [[u16; 16]; 64]) -> [[u8; 16]; 64]
     let mut asked = [[0; 16]; 64];
     let mut v = 0;
     while v < 64 {
-        asked[v] = asked_row(table, slots, slots[v]);
+        let row = slots[v];
+        asked[v] = asked_row(table, &slots, row);
         v += 1;
     }
     asked
@@ -96,15 +97,4 @@ pub fn asked_bytes(table: &[u8]) -> [[u8; 16]; 64]
     ensures { λ r. ⌜ r ≡ tabulate (λ v. askedRow (slotted (now (table .entry))) (slotted (now (table .entry)) v)) 64 ⌝ }
 {
     asked_rows(table, slots_of(table))
-}
-
-// What vertex v has to hear; nothing where it is no vertex.
-pub fn asked_of(table: &[u8], v: u8) -> [u8; 16]
-    ensures { λ r. ⌜ r ≡ askedRow (slotted (now (table .entry))) (slotted (now (table .entry)) v) ⌝ }
-{
-    if VERTICES <= v {
-        return [0; 16];
-    }
-    let slots = slots_of(table);
-    asked_row(table, slots, slots[v as usize])
 }

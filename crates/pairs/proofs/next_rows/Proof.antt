@@ -8,6 +8,7 @@ use lib.ListN.{length, take, replicate, length-set, length-replicate}
 use Rattle.lists.specs.Fill.{tabulate}
 use Rattle.lists.specs.FillLaws.{tabulate-none, fill-more, fill-end}
 use Rattle.pairs.specs.SlotPaths.{heldIn}
+use Rattle.pairs.specs.SlotPathLaws.{held-vertex}
 use Rattle.pairs.specs.NextHops.{nextRow}
 use Rattle.pairs.proofs.next_rows.Statement.{statement}
 use Rattle.pairs.proofs.next_rows.Tie as tie
@@ -46,13 +47,13 @@ loop-less : tie.Need-loop-less Inv-loop μ-loop
 loop-less c = omega arith
 
 loop-again : tie.Need-loop-again Inv-loop μ-loop
-unfolding heldIn
 loop-again c =
     let at-loop = c .before .before .before in
     let i = at-loop .loop .inv in (
       omega arith,
       length-set (at-loop .loop .nexts) (at-loop .loop .v) _ ∙ i .1,
-      fill-more _ _ _ (at-loop .loop .v) _ (i .2) (omega arith) refl (c .next-row .ensures),
+      fill-more _ _ _ (at-loop .loop .v) _ (i .2) (omega arith) refl
+          (c .next-row .ensures ∙ ap nextRow (held-vertex _ _ _ (omega arith))),
     )
 
 returns : tie.Need-returns Inv-loop μ-loop

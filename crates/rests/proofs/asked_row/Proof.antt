@@ -1,10 +1,9 @@
 -- `rests::asked_row` meets its contract: the slots before k have their bytes.
 -- Assumes nothing.
-use mathlib.Core.Path.{_≡_, sym, ap, _∙_}
+use mathlib.Core.Path.{sym, ap, _∙_}
 use Prim.Native.Nat.{_≤_, _-_}
 use native.Mathlib.Omega.{arith}
-use lib.ListN.{length}
-use borrow.Kind.Array.{good-length, eInt, eArr}
+use borrow.Kind.Array.{good-length, eInt}
 use mir.Syntax.{w16}
 use Rattle.rules.specs.Table.{pathAt, nextHop}
 use Rattle.pairs.specs.SlotPaths.{heldIn, FilledTo}
@@ -15,7 +14,7 @@ use Rattle.rests.proofs.asked_row.Statement.{statement}
 use Rattle.rests.proofs.asked_row.Tie as tie
 
 abbrev Inv-loop : tie.InvT-loop
-Inv-loop table slots row asked₀ k₀ asked k = (k ≤ 16) × (length slots ≡ 64) × FilledTo (askedFor (heldIn table slots)) 0 table row asked k
+Inv-loop table slots row asked₀ k₀ asked k = (k ≤ 16) × FilledTo (askedFor (heldIn table slots)) 0 table row asked k
 
 abbrev μ-loop : tie.MeasureT-loop
 μ-loop table slots row asked₀ k₀ asked k = 16 - k
@@ -24,7 +23,6 @@ loop-holds : tie.Need-loop-holds Inv-loop μ-loop
 loop-holds c =
     let a = c .before in (
       omega arith,
-      good-length (eArr (eInt w16) 16) 64 (a .args .t2) _ (a .good .1 .0),
       filled-none (good-length (eInt w16) 16 (a .args .t3) _ (a .good .1 .1 .0)),
     )
 
@@ -36,7 +34,7 @@ array-read-i c = omega arith
 
 returns : tie.Need-returns Inv-loop μ-loop
 unfolding askedRow
-returns c = filled-to-stop (c .before .before .loop .inv .2) (omega arith) (c .if1 .taken)
+returns c = filled-to-stop (c .before .before .loop .inv .1) (omega arith) (c .if1 .taken)
 
 add-k : tie.Need-add-k Inv-loop μ-loop
 add-k c = omega arith
@@ -56,7 +54,7 @@ loop-again c =
     let at-if = at-next .before .before in
     let i = at-if .before .before .loop .inv in
     let next = at-next .next-at .ensures ∙ ap nextHop (ap (pathAt _) (at-next .before .wide .ensures)) in
-    (omega arith, i .1, filled-to-same (i .2) (omega arith) (at-if .if1 .left) (asked-past _ _ (i .1) _ _ next (omega arith)))
+    (omega arith, filled-to-same (i .1) (omega arith) (at-if .if1 .left) (asked-past _ _ _ _ next (omega arith)))
 
 wide-requires-2 : tie.Need-wide-requires-2 Inv-loop μ-loop
 wide-requires-2 c κs = omega arith
@@ -70,8 +68,8 @@ cast-asked-byte c = omega arith
 mul-asked-byte : tie.Need-mul-asked-byte Inv-loop μ-loop
 mul-asked-byte c = omega arith
 
-array-copy-out-asked-byte : tie.Need-array-copy-out-asked-byte Inv-loop μ-loop
-array-copy-out-asked-byte c = omega arith
+element-copy-out-asked-byte : tie.Need-element-copy-out-asked-byte Inv-loop μ-loop
+element-copy-out-asked-byte c = omega arith
 
 asked-byte-requires : tie.Need-asked-byte-requires Inv-loop μ-loop
 asked-byte-requires c κs = omega arith
@@ -91,14 +89,13 @@ loop-again-2 c =
     let here = at-path .path-at .ensures ∙ ap (pathAt _) (at-path .before .wide2 .ensures) in
     let next = at-next .next-at .ensures ∙ ap nextHop (ap (pathAt _) (at-next .before .wide .ensures) ∙ sym here) in (
       omega arith,
-      i .1,
-      filled-to-more (i .2) _ (omega arith) (at-if .if1 .left)
-          (asked-told _ _ (i .1) _ _ next _ (c .asked-byte .ensures) ∙ ap (askedFor (heldIn _ _)) here),
+      filled-to-more (i .1) _ (omega arith) (at-if .if1 .left)
+          (asked-told _ _ _ _ next (omega arith) _ (c .asked-byte .ensures) ∙ ap (askedFor (heldIn _ _)) here),
     )
 
 returns-2 : tie.Need-returns-2 Inv-loop μ-loop
 unfolding askedRow
-returns-2 c = filled-to-end (c .before .loop .inv .2) (omega arith)
+returns-2 c = filled-to-end (c .before .loop .inv .1) (omega arith)
 
 pub asked-row-spec : {M : Type 1} → statement M
 asked-row-spec =
@@ -119,7 +116,7 @@ asked-row-spec =
     path-at-requires
     cast-asked-byte
     mul-asked-byte
-    array-copy-out-asked-byte
+    element-copy-out-asked-byte
     asked-byte-requires
     array-write-asked
     loop-less-2

@@ -1,6 +1,6 @@
 -- `rests::asked_rows` meets its contract: each vertex has its row.
 -- Assumes nothing.
-use mathlib.Core.Path.{_≡_, refl, sym, _∙_}
+use mathlib.Core.Path.{_≡_, refl, sym, ap, _∙_}
 use mathlib.Core.List.{List}
 use Prim.Native.Nat.{ℕ, _≤_, _-_}
 use native.Mathlib.Omega.{arith}
@@ -8,6 +8,7 @@ use lib.ListN.{length, take, replicate, length-set, length-replicate}
 use Rattle.lists.specs.Fill.{tabulate}
 use Rattle.lists.specs.FillLaws.{tabulate-none, fill-more, fill-end}
 use Rattle.pairs.specs.SlotPaths.{heldIn}
+use Rattle.pairs.specs.SlotPathLaws.{held-vertex}
 use Rattle.rests.specs.Rests.{askedRow}
 use Rattle.rests.proofs.asked_rows.Statement.{statement}
 use Rattle.rests.proofs.asked_rows.Tie as tie
@@ -24,11 +25,11 @@ abbrev μ-loop : tie.MeasureT-loop
 loop-holds : tie.Need-loop-holds Inv-loop μ-loop
 loop-holds c = (omega arith, length-replicate {A = List ℕ} 64 (replicate 16 0), sym (tabulate-none _))
 
-mul-asked-row : tie.Need-mul-asked-row Inv-loop μ-loop
-mul-asked-row c = omega arith
+mul-row : tie.Need-mul-row Inv-loop μ-loop
+mul-row c = omega arith
 
-array-copy-out-asked-row : tie.Need-array-copy-out-asked-row Inv-loop μ-loop
-array-copy-out-asked-row c = omega arith
+array-copy-out-row : tie.Need-array-copy-out-row Inv-loop μ-loop
+array-copy-out-row c = omega arith
 
 asked-row-requires : tie.Need-asked-row-requires Inv-loop μ-loop
 asked-row-requires c κs = omega arith
@@ -46,13 +47,14 @@ loop-less : tie.Need-loop-less Inv-loop μ-loop
 loop-less c = omega arith
 
 loop-again : tie.Need-loop-again Inv-loop μ-loop
-unfolding heldIn
 loop-again c =
-    let at-loop = c .before .before .before in
+    let at-row = c .before .before in
+    let at-loop = at-row .before .before in
     let i = at-loop .loop .inv in (
       omega arith,
       length-set (at-loop .loop .asked) (at-loop .loop .v) _ ∙ i .1,
-      fill-more _ _ _ (at-loop .loop .v) _ (i .2) (omega arith) refl (c .asked-row .ensures),
+      fill-more _ _ _ (at-loop .loop .v) _ (i .2) (omega arith) refl
+          (c .asked-row .ensures ∙ ap (askedRow _) (held-vertex _ _ _ (omega arith))),
     )
 
 returns : tie.Need-returns Inv-loop μ-loop
@@ -65,8 +67,8 @@ asked-rows-spec =
     Inv-loop
     μ-loop
     loop-holds
-    mul-asked-row
-    array-copy-out-asked-row
+    mul-row
+    array-copy-out-row
     asked-row-requires
     mul-asked
     array-set-from-asked
