@@ -6,6 +6,7 @@ use pairs::is_listening;
 
 // The number of pairs, and of vertices.
 const PAIRS: usize = 4096;
+
 const VERTICES: usize = 64;
 
 // The number at a place; past the end it is 0.

@@ -9,6 +9,7 @@ use slices::byte_at;
 
 // The number of a vertex's slots, and the byte of the destination's choice.
 const SLOTS: usize = 16;
+
 const DESTINATION_CHOICE: u8 = 1;
 
 // The slot that was found, or none.

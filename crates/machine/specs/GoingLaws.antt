@@ -2,6 +2,7 @@
 use mathlib.Core.Path.{_≡_, refl, sym, ap, _∙_}
 use mathlib.Core.Bool.{Bool, true, false}
 use mathlib.Core.List.{List, [], _∷_}
+use mathlib.Core.Option.{none}
 use Prim.Native.Nat.{ℕ, suc, _+_, _-_, _*_, _/_, _<_, _≤_}
 use native.Mathlib.Omega.{arith}
 use lib.ListN.{length, getD, set, take, replicate, length-set, length-replicate}
@@ -16,21 +17,29 @@ use Rattle.lists.specs.FoldLaws.{fold-nil, fold-more}
 use Rattle.lists.specs.Tests.{by-equal}
 use Rattle.lists.specs.ListLaws.{same-refl, differ}
 use Rattle.lists.specs.NumberLaws.{difference-most}
-use Rattle.rules.specs.Table.{Path, pathsOf, listens, listensAt}
-use Rattle.rules.specs.Machine.{Pair, offsetOf, byteFor, pathFor, choice, choiceBytes, step, standing, movement, standingOf}
+use Rattle.rules.specs.Table.{Path, pathsOf, present, listens, listensAt}
+use Rattle.rules.specs.Refusals.{refusal}
+use Rattle.rules.specs.Machine.{Pair, offsetOf, byteFor, pathFor, choice, choiceBytes, step, standing, movement}
 use Rattle.laws.specs.MachineLaws.{byte-tells, choice-spoken, choice-kept, step-length, standing-most, offset-listens}
+use Rattle.laws.specs.ShapeLaws.{shaped}
 use Rattle.rules.specs.Run.{Tally, pairsIn, isUp, isDown, more, listeningOffsets, closes, begun, activated, run}
-use Rattle.laws.specs.RunLaws.{Telescoped, telescoped-none, telescoped-on, all-listen, run-steps, more-both}
+use Rattle.laws.specs.RunLaws.{Telescoped, telescoped-none, telescoped-on, all-listen, run-steps, more-both, more-most}
 use Rattle.laws.specs.ScheduleLaws.{pairs-length, pairs-at}
 use Rattle.answer.specs.declared.RunAnswer.{RunAnswer}
 use Rattle.answer.specs.declared.RunVerdict.the-variants.{Accepted}
-use Rattle.machine.specs.Moves.{Worked}
-use Rattle.machine.specs.Counts.{moved, lastOf}
-use Rattle.machine.specs.Rounds.{newlyAt, missingAfter, leftAfter, Open, Stamped}
-use Rattle.machine.specs.RoundLaws.{more-most, stamped-none, newly-most, closed-on, stamped-on}
-use Rattle.machine.specs.StepLaws.{listening-worked, worked-small, worked-moved}
-use Rattle.machine.specs.Going.{Ready, Prepared, tallyAt, Going}
-use Rattle.machine.specs.Ran.{accepted}
+use Rattle.pairs.specs.NextHops.{slotTo, pairNumber}
+use Rattle.pairs.specs.NextHopLaws.{number-of, number-small, number-apart}
+use Rattle.rests.specs.Rests.{askedRow}
+use Rattle.choice.specs.Choosing.{choiceByte, choicesBy}
+use Rattle.choice.specs.ChoosingLaws.{choices-told}
+use Rattle.tally.specs.Counting.{moved, moreTo, lastOf, CountedStep}
+use Rattle.tally.specs.CountingLaws.{more-to}
+use Rattle.tally.specs.Stamps.{Numbered, Stamped, Activated, openRound, leftAfter}
+use Rattle.tally.specs.StampLaws.{stamped-none, closed-on, stamped-on}
+use Rattle.machine.specs.Working.{Rows, Asks, Workable}
+use Rattle.machine.specs.StepLaws.{byte-told, listening-worked, says-step, worked-small, worked-moved}
+use Rattle.machine.specs.Going.{Prepared, tallyAt, Going}
+use Rattle.machine.specs.Ran.{accepted, Followed}
 
 -- the choices after a step: the listener's is new
 module _ (paths : ℕ → List Path) (heard : List ℕ) (p : Pair) (small : p .speaker < 64) where
@@ -59,7 +68,15 @@ choice-same paths one two v a b e f =
     eq-eqb a b q ∙ sym (ap (same c) (sym z) ∙ same-refl c))
     (λ q. ne-eqb a b q ∙ sym (differ c d (λ z. q (e ∙ ap (byteFor paths v) z ∙ sym f))))
 
-module _ (t start schedule : List ℕ) (sumsLent : List ℤ) (r : Ready t start schedule sumsLent) where
+-- the numbers of the listening pairs
+numbered : (t : List ℕ) (nexts : List (List ℕ)) → refusal t ≡ none → Rows (pathsOf t) nexts → Numbered (listensAt (pathsOf t)) (pairNumber nexts) 1024
+numbered t nexts e rows =
+    record {
+      small = number-small (pathsOf t) (present t) (shaped t e) nexts rows;
+      apart = number-apart (pathsOf t) (present t) (shaped t e) nexts rows;
+    }
+
+module _ {t start schedule : List ℕ} {nexts asked : List (List ℕ)} {all : ℕ} (f : Prepared t start schedule nexts asked all) where
   abbrev paths : ℕ → List Path
   paths = pathsOf t
 
@@ -71,34 +88,40 @@ module _ (t start schedule : List ℕ) (sumsLent : List ℤ) (r : Ready t start 
   unfolding tallyAt run
   tally-start = fold-nil (activated paths (listeningOffsets paths)) (begun start)
 
-  pub going-start : (slots asked : List (List ℕ)) (all : ℕ) (choices : List ℕ) (sums : List ℤ)
-      → Prepared t slots asked all
-      → choices ≡ choiceBytes paths start
-      → sums ≡ tabulate (λ v. pos 0) 64
-      → Going t start schedule 0 start choices sums 0 0 0 (replicate 4096 0) 0 all
+  pub going-start : (choices : List ℕ) (sums : List ℤ) → choices ≡ choicesBy nexts asked start → sums ≡ tabulate (λ v. pos 0) 64
+      → Going t start schedule nexts 0 start choices sums 0 0 0 (replicate 1024 0) 0 all
   unfolding begun
-  going-start slots asked all choices sums f c z =
+  going-start choices sums c z =
+      let e = f .accepted in
+      let told = c ∙ choices-told paths (present t) (shaped t e) nexts asked start (f .rows) (f .asks) in
       record {
         state = sym (ap (λ (y : Tally). y .heard) tally-start);
-        chosen = c;
+        chosen = told;
         summed = z ∙ tabulate-alike (pos 0) 64 ∙ sym (ap (λ (y : Tally). y .sums) tally-start);
         telescoped = rw tally-start (telescoped-none paths (begun start));
         up = sym (ap (λ (y : Tally). y .ups) tally-start);
         down = sym (ap (λ (y : Tally). y .downs) tally-start);
         changed = sym (ap (λ (y : Tally). y .lastChange) tally-start);
         rounds = sym (ap (λ (y : Tally). y .rounds) tally-start);
-        stamped = rw (ap (λ (y : Tally). y .since) tally-start) (stamped-none paths all (f .pairs));
-        long = r .long;
-        longChoices = ap length c ∙ choices-length paths start;
+        stamped = rw (ap (λ (y : Tally). y .since) tally-start)
+            (stamped-none paths (pairNumber nexts) 1024 all (numbered t nexts e (f .rows)) (f .pairs));
+        size = length-replicate {A = ℕ} 1024 0;
+        long = f .long;
+        longChoices = ap length told ∙ choices-length paths start;
         longSums = ap length z ∙ tabulate-length (λ v. pos 0) 64;
         moves = omega arith;
         fewRounds = omega arith;
       }
 
   -- the pair i
-  module _ (i : ℕ) (heard choices : List ℕ) (sums : List ℤ) (ups downs last : ℕ) (stamps : List ℕ) (closed missing : ℕ)
-      (g : Going t start schedule i heard choices sums ups downs last stamps closed missing) (h : i < length schedule / 2)
-      (v u : ℕ) (first : v ≡ getD schedule (2 * i) 0) (second : u ≡ getD schedule (2 * i + 1) 0) where
+  module _ {i : ℕ} {heard choices : List ℕ} {sums : List ℤ} {ups downs last : ℕ} {stamps : List ℕ} {closed missing : ℕ}
+      (g : Going t start schedule nexts i heard choices sums ups downs last stamps closed missing) (h : i < length schedule / 2) where
+    abbrev v : ℕ
+    v = getD schedule (2 * i) 0
+
+    abbrev u : ℕ
+    u = getD schedule (2 * i + 1) 0
+
     abbrev pair : Pair
     pair = record { listener = v; speaker = u }
 
@@ -106,39 +129,30 @@ module _ (t start schedule : List ℕ) (sumsLent : List ℤ) (r : Ready t start 
     within = omega (arith, pairs-length schedule)
 
     this : getD pairs i pair ≡ pair
-    this = pairs-at schedule i pair h ∙ (λ j. record { listener = sym first j; speaker = sym second j })
+    this = pairs-at schedule i pair h
 
     hears : listens paths v u ≡ true
-    hears = rw this at (all-listen paths pairs pair (r .listens) i within)
+    hears = rw this at (all-listen paths pairs pair (f .listens) i within)
 
     -- it can be worked
-    pub going-worked : Worked t heard v u
-    going-worked = listening-worked t heard v u (r .accepted) (g .long) hears
+    pub going-worked : Workable t heard v u
+    going-worked = listening-worked t heard v u (f .accepted) (g .long) hears
 
     -- each vertex's byte is that of its present choice
-    pub going-byte : (w : ℕ) → w < 64 → getD choices w 0 ≡ byteFor paths w (choice paths heard w)
+    going-byte : (w : ℕ) → w < 64 → getD choices w 0 ≡ byteFor paths w (choice paths heard w)
     unfolding choiceBytes
     going-byte w l = ap (λ (c : List ℕ). getD c w 0) (g .chosen) ∙ tabulate-at (λ x. byteFor paths x (choice paths heard x)) 64 w 0 l
 
-    -- its offset can be activated
-    at-small : v * 64 + u < 4096
+    -- its offset
+    abbrev at : ℕ
+    at = 64 * v + u
+
+    at-small : at < 4096
     at-small = omega (arith, going-worked .listener, going-worked .speaker)
 
-    same-offset : v * 64 + u ≡ 64 * v + u
-    same-offset = omega arith
-
-    heard-at : listensAt paths (v * 64 + u) ≡ true
+    heard-at : listensAt paths at ≡ true
     unfolding offsetOf
-    heard-at = rw same-offset (offset-listens paths pair (going-worked .speaker) ∙ hears)
-
-    pub going-open : Open stamps (v * 64 + u) closed missing
-    going-open =
-        record {
-          room = omega (arith, g .stamped .size, at-small);
-          most = newly-most paths stamps closed missing (tallyAt t start schedule i .since) (g .stamped) (v * 64 + u) _
-              at-small heard-at refl;
-          few = omega (arith, g .fewRounds, r .short);
-        }
+    heard-at = offset-listens paths pair (going-worked .speaker) ∙ hears
 
     tally-count : tallyAt t start schedule i .steps ≡ i
     unfolding tallyAt
@@ -158,21 +172,26 @@ module _ (t start schedule : List ℕ) (sumsLent : List ℤ) (r : Ready t start 
         (going-worked .speaker) (omega (arith, going-worked .listener, length-replicate 64 (pos 0))) (g .telescoped))
 
     -- the step
-    module _ (after : List ℕ) (old new : ℕ) (m : ℤ) (stepped : after ≡ step paths heard pair) (before : old ≡ getD choices v 0)
-        (now : new ≡ byteFor paths v (choice paths after v)) (move : m ≡ pos (standingOf new) -ℤ pos (standingOf old)) where
+    module _ {after : List ℕ} {new : ℕ} (store : after ≡ set heard (64 * v + u) (getD choices u 0))
+        (choose : new ≡ choiceByte (getD nexts v []) (getD asked v []) after v) {m : ℤ} (move : m ≡ moved (getD choices v 0) new) where
+      abbrev old : ℕ
+      old = getD choices v 0
+
+      stepped : after ≡ step paths heard pair
+      stepped = says-step going-worked (getD choices u 0) after (going-byte u (going-worked .speaker)) store
+
       was : old ≡ byteFor paths v (choice paths heard v)
-      was = before ∙ going-byte v (going-worked .listener)
+      was = going-byte v (going-worked .listener)
 
-      moves-by : m ≡ movement paths heard pair
-      moves-by = worked-moved t heard v u going-worked after old new m stepped was now move
-
-      -- ranks are small
-      pub going-ranks : (old ≤ 16) × (new ≤ 16)
-      going-ranks = (worked-small t heard v u going-worked heard old was, worked-small t heard v u going-worked after new now)
+      now : new ≡ byteFor paths v (choice paths after v)
+      now =
+          byte-told t (f .accepted) nexts (f .rows) v (going-worked .listener) (getD asked v [])
+          (ap (λ (l : List (List ℕ)). getD l v []) (f .asks) ∙ tabulate-at (λ w. askedRow paths (paths w)) 64 v [] (going-worked .listener))
+          after new choose
 
       -- the movement as the rules' run sees it
-      moved-is : pos (standingOf new) -ℤ pos (standingOf old) ≡ movement paths (tallyAt t start schedule i .heard) pair
-      moved-is = sym move ∙ moves-by ∙ ap (λ (x : List ℕ). movement paths x pair) (g .state)
+      moved-is : moved old new ≡ movement paths (tallyAt t start schedule i .heard) pair
+      moved-is = worked-moved going-worked after old new stepped was now ∙ ap (λ (x : List ℕ). movement paths x pair) (g .state)
 
       -- the sums afterwards are those of the rules, so the listener's is a difference of two standings
       sums-next : (sumsNow : List ℤ) → sumsNow ≡ set sums v (getD sums v (pos 0) +ℤ m) → sumsNow ≡ tallyAt t start schedule (i + 1) .sums
@@ -187,10 +206,10 @@ module _ (t start schedule : List ℕ) (sumsLent : List ℤ) (r : Ready t start 
       going-small =
           let a = standing paths (tallyAt t start schedule (i + 1) .heard) v in
           let b = standing paths start v in
-          let new = getD sums v (pos 0) +ℤ m in
-          let e : new ≡ pos a -ℤ pos b =
-          sym (getD-set-same sums v new (pos 0) (omega (arith, g .longSums, going-worked .listener)))
-          ∙ ap (λ (l : List ℤ). getD l v (pos 0)) (sums-next (set sums v new) refl)
+          let sum = getD sums v (pos 0) +ℤ m in
+          let e : sum ≡ pos a -ℤ pos b =
+          sym (getD-set-same sums v sum (pos 0) (omega (arith, g .longSums, going-worked .listener)))
+          ∙ ap (λ (l : List ℤ). getD l v (pos 0)) (sums-next (set sums v sum) refl)
           ∙ telescoped-next .sum v ∙ ap (λ c. c +ℤ pos a -ℤ pos b) (alike-at 64 v (pos 0)) ∙ ap (λ c. c -ℤ pos b) (+ℤ-idl (pos a)) in
           rw e (difference-most a b 16 (standing-most paths (tallyAt t start schedule (i + 1) .heard) v) (standing-most paths start v))
 
@@ -198,109 +217,101 @@ module _ (t start schedule : List ℕ) (sumsLent : List ℤ) (r : Ready t start 
       abbrev latest : Bool → ℕ → ℕ → ℕ
       latest kept x n = elim kept [ true ↦ x | false ↦ n ]
 
-      changed-next : (number lastNow : ℕ) → number ≡ i + 1 → lastNow ≡ lastOf old new number last → lastNow ≡ tallyAt t start schedule (i + 1) .lastChange
+      changed-next : (lastNow : ℕ) → lastNow ≡ lastOf old new (i + 1) last → lastNow ≡ tallyAt t start schedule (i + 1) .lastChange
       unfolding activated lastOf
-      changed-next number lastNow ne le =
+      changed-next lastNow le =
           let y = tallyAt t start schedule i in
           let kept : eqb old new ≡ same (choice paths (y .heard) v) (choice paths (step paths (y .heard) pair) v) =
           choice-same paths heard after v old new was now
           ∙ ap (λ (x : List ℕ). same (choice paths heard v) (choice paths x v)) stepped
           ∙ ap (λ (x : List ℕ). same (choice paths x v) (choice paths (step paths x pair) v)) (g .state) in
-          let count : number ≡ suc (y .steps) = omega (arith, tally-count) in
-          le ∙ ap (λ (b : Bool). latest b last number) kept
-          ∙ ap (λ x. latest (same (choice paths (y .heard) v) (choice paths (step paths (y .heard) pair) v)) x number) (g .changed)
+          let count : i + 1 ≡ suc (y .steps) = omega (arith, tally-count) in
+          le ∙ ap (λ (b : Bool). latest b last (i + 1)) kept
+          ∙ ap (λ x. latest (same (choice paths (y .heard) v) (choice paths (step paths (y .heard) pair) v)) x (i + 1)) (g .changed)
           ∙ ap (latest (same (choice paths (y .heard) v) (choice paths (step paths (y .heard) pair) v)) (y .lastChange)) count
           ∙ sym (ap (λ (z : Tally). z .lastChange) tally-on)
 
       -- the rounds
-      module _ (stampsNow : List ℕ) (closedNow missingNow all : ℕ)
-          (qe : closedNow ≡ more (eqb (leftAfter stamps (v * 64 + u) closed missing) 0) closed)
-          (me : missingNow ≡ missingAfter (leftAfter stamps (v * 64 + u) closed missing) all)
-          (te : stampsNow ≡ set stamps (v * 64 + u) (closed + 1)) (ae : all ≡ countBelow (listensAt paths) 4096) where
-        abbrev seen : ℕ → List ℕ
-        seen k = k ∷ tallyAt t start schedule i .since
+      module _ {stampsNow : List ℕ} {closedNow missingNow slot : ℕ} (told : slot ≡ slotTo (getD nexts v []) u)
+          (a : Activated stamps (16 * v + slot) closed missing all stampsNow closedNow missingNow) where
+        few : closed < 65535
+        few = omega (arith, g .fewRounds, f .short)
+
+        numbers : Activated stamps (pairNumber nexts at) closed missing all stampsNow closedNow missingNow
+        numbers =
+            let z : pairNumber nexts at ≡ 16 * v + slot = number-of nexts v u (going-worked .speaker) ∙ ap (λ n. 16 * v + n) (sym told) in
+            rw z a
+
+        closing : closedNow ≤ suc closed
+        closing =
+            let left = eqb (leftAfter stamps (16 * v + slot) closed missing) 0 in
+            omega (arith, a .closing ∙ more-to 65535 left closed few, more-most left closed)
 
         rounds-next : closedNow ≡ tallyAt t start schedule (i + 1) .rounds
-        unfolding activated leftAfter offsetOf
+        unfolding activated offsetOf
         rounds-next =
-            closed-on paths stamps closed missing (tallyAt t start schedule i .since) (g .stamped) (v * 64 + u)
-            (newlyAt stamps (v * 64 + u) (closed + 1)) at-small heard-at refl _ refl stampsNow closedNow missingNow all te qe me ae
-            ∙ ap (λ k. more (closes (listeningOffsets paths) (seen k)) closed) same-offset
-            ∙ ap (more (closes (listeningOffsets paths) (seen (64 * v + u)))) (g .rounds) ∙ sym (ap (λ (z : Tally). z .rounds) tally-on)
+            closed-on paths (pairNumber nexts) (g .stamped) at at-small heard-at few numbers (f .pairs)
+            ∙ ap (more (closes (listeningOffsets paths) (at ∷ tallyAt t start schedule i .since))) (g .rounds)
+            ∙ sym (ap (λ (z : Tally). z .rounds) tally-on)
 
-        stamped-next : Stamped (listensAt paths) stampsNow closedNow missingNow (tallyAt t start schedule (i + 1) .since)
-        unfolding activated leftAfter offsetOf
+        stamped-next : Stamped (listensAt paths) (pairNumber nexts) stampsNow closedNow missingNow (tallyAt t start schedule (i + 1) .since)
+        unfolding activated offsetOf
         stamped-next =
-            let since : ℕ → List ℕ = λ k. elim (closes (listeningOffsets paths) (seen k)) [ true ↦ [] | false ↦ seen k ] in
-            let e : since (v * 64 + u) ≡ tallyAt t start schedule (i + 1) .since =
-            ap since same-offset ∙ sym (ap (λ (z : Tally). z .since) tally-on) in
-            rw (← e) (stamped-on paths stamps closed missing (tallyAt t start schedule i .since) (g .stamped) (v * 64 + u)
-            (newlyAt stamps (v * 64 + u) (closed + 1)) at-small heard-at refl _ refl stampsNow closedNow missingNow all te qe me ae)
+            rw (ap (λ (z : Tally). z .since) tally-on)
+            (stamped-on paths (pairNumber nexts) (g .stamped) at at-small heard-at few numbers (f .pairs))
 
         -- one pair more
-        pub going-more : (choicesNow : List ℕ) (sumsNow : List ℤ) (number upsNow downsNow lastNow : ℕ)
-            → choicesNow ≡ set choices v new
+        pub going-more : {sumsNow : List ℤ} {upsNow downsNow lastNow : ℕ}
             → sumsNow ≡ set sums v (getD sums v (pos 0) +ℤ m)
-            → number ≡ i + 1
-            → upsNow ≡ more (isUp (moved old new)) ups
-            → downsNow ≡ more (isDown (moved old new)) downs
-            → lastNow ≡ lastOf old new number last
-            → Going t start schedule (i + 1) after choicesNow sumsNow upsNow downsNow lastNow stampsNow closedNow missingNow
-        unfolding activated moved
-        going-more choicesNow sumsNow number upsNow downsNow lastNow ce se ne ue de le =
+            → CountedStep old new (i + 1) ups downs last upsNow downsNow lastNow
+            → Going t start schedule nexts (i + 1) after (set choices v new) sumsNow upsNow downsNow lastNow stampsNow closedNow missingNow
+        unfolding activated
+        going-more {sumsNow} {upsNow} {downsNow} {lastNow} se c =
             let y = tallyAt t start schedule i in
             let w = movement paths (y .heard) pair in
+            let ue : upsNow ≡ more (isUp (moved old new)) ups = c .up ∙ more-to 4294967295 (isUp (moved old new)) ups (omega (arith, g .moves, f .short)) in
+            let de : downsNow ≡ more (isDown (moved old new)) downs = c .down ∙ more-to 4294967295 (isDown (moved old new)) downs (omega (arith, g .moves, f .short)) in
             record {
               state = stepped ∙ ap (λ (x : List ℕ). step paths x pair) (g .state) ∙ sym (ap (λ (z : Tally). z .heard) tally-on);
-              chosen = ce ∙ ap (λ (c : List ℕ). set c v new) (g .chosen)
+              chosen = ap (λ (c : List ℕ). set c v new) (g .chosen)
                   ∙ choices-on paths heard pair (going-worked .speaker) new (now ∙ ap (λ (x : List ℕ). byteFor paths v (choice paths x v)) stepped)
                   ∙ sym (ap (choiceBytes paths) stepped);
               summed = sums-next sumsNow se;
               telescoped = telescoped-next;
               up = ue ∙ ap (λ x. more (isUp x) ups) moved-is ∙ ap (more (isUp w)) (g .up) ∙ sym (ap (λ (z : Tally). z .ups) tally-on);
               down = de ∙ ap (λ x. more (isDown x) downs) moved-is ∙ ap (more (isDown w)) (g .down) ∙ sym (ap (λ (z : Tally). z .downs) tally-on);
-              changed = changed-next number lastNow ne le;
+              changed = changed-next lastNow (c .change);
               rounds = rounds-next;
               stamped = stamped-next;
+              size = ap length (a .stamping) ∙ length-set stamps (16 * v + slot) (openRound closed) ∙ g .size;
               long = ap length stepped ∙ step-length paths heard pair ∙ g .long;
-              longChoices = ap length ce ∙ length-set choices v new ∙ g .longChoices;
+              longChoices = length-set choices v new ∙ g .longChoices;
               longSums = ap length se ∙ length-set sums v (getD sums v (pos 0) +ℤ m) ∙ g .longSums;
-              moves = omega (arith, more-both (pos (standingOf new) -ℤ pos (standingOf old)) ups downs, g .moves);
-              fewRounds = omega (arith, g .fewRounds, more-most (eqb (leftAfter stamps (v * 64 + u) closed missing) 0) closed);
+              moves = omega (arith, more-both (moved old new) ups downs, g .moves, ue, de);
+              fewRounds = omega (arith, g .fewRounds, closing);
             }
 
   -- after the last pair the run has ended
-  module _ (i : ℕ) (heard choices : List ℕ) (sums : List ℤ) (ups downs last : ℕ) (stamps : List ℕ) (closed missing : ℕ)
-      (g : Going t start schedule i heard choices sums ups downs last stamps closed missing) (h : length schedule / 2 ≤ i) (l : i ≤ length schedule / 2) where
+  module _ {i : ℕ} {heard choices : List ℕ} {sums : List ℤ} {ups downs last : ℕ} {stamps : List ℕ} {closed missing : ℕ}
+      (g : Going t start schedule nexts i heard choices sums ups downs last stamps closed missing)
+      (h : length schedule / 2 ≤ i) (l : i ≤ length schedule / 2) where
     tally-end : tallyAt t start schedule i ≡ run paths start pairs
     unfolding tallyAt
     tally-end = ap (run paths start) (take-all i pairs (omega (arith, pairs-length schedule)))
 
-    pub going-heard : heard ≡ run paths start pairs .heard
-    going-heard = g .state ∙ ap (λ (z : Tally). z .heard) tally-end
-
-    pub going-sums : sums ≡ run paths start pairs .sums
-    going-sums = g .summed ∙ ap (λ (z : Tally). z .sums) tally-end
-
-    pub going-answer : (a : RunAnswer)
+    pub going-end : (a : RunAnswer)
         → a ≡ record { verdict = Accepted; steps = i; ups = ups; downs = downs; last = last; rounds = closed }
-        → a ≡ accepted (run paths start pairs)
+        → Followed (run paths start pairs) a heard sums
     unfolding accepted
-    going-answer a e =
+    going-end a e =
         let y = run paths start pairs in
         let n : i ≡ y .steps = omega (arith, run-steps paths start pairs, pairs-length schedule) in
         let p : ups ≡ y .ups = g .up ∙ ap (λ (z : Tally). z .ups) tally-end in
         let d : downs ≡ y .downs = g .down ∙ ap (λ (z : Tally). z .downs) tally-end in
         let c : last ≡ y .lastChange = g .changed ∙ ap (λ (z : Tally). z .lastChange) tally-end in
         let o : closed ≡ y .rounds = g .rounds ∙ ap (λ (z : Tally). z .rounds) tally-end in
-        e ∙ (λ j. record { verdict = Accepted; steps = n j; ups = p j; downs = d j; last = c j; rounds = o j })
-
--- the pair i can be worked, as the code asks for it
-pub pair-worked : {t start schedule heard choices stamps : List ℕ} {sumsLent sums : List ℤ} {i ups downs last closed missing v u : ℕ}
-    → Ready t start schedule sumsLent
-    → Going t start schedule i heard choices sums ups downs last stamps closed missing
-    → i < length schedule / 2
-    → v ≡ getD schedule (2 * i) 0
-    → u ≡ getD schedule (2 * i + 1) 0
-    → Worked t heard v u
-pair-worked r g h first second = going-worked _ _ _ _ r _ _ _ _ _ _ _ _ _ _ g h _ _ first second
+        record {
+          answer = e ∙ (λ j. record { verdict = Accepted; steps = n j; ups = p j; downs = d j; last = c j; rounds = o j });
+          heard = g .state ∙ ap (λ (z : Tally). z .heard) tally-end;
+          sums = g .summed ∙ ap (λ (z : Tally). z .sums) tally-end;
+        }

@@ -19,12 +19,18 @@ accepted y =
 unfoldable pub refused : ℕ → ℕ → RunAnswer
 refused n k = record { verdict = Refused n k; steps = 0; ups = 0; downs = 0; last = 0; rounds = 0 }
 
--- in its order: the refusal, the numbers, the heard state and the sums afterwards
-abbrev pub Ran : List ℕ → List ℕ → List ℕ → List ℤ → RunAnswer → List ℕ → List ℤ → Type 0
-Ran table heard s sums a after sumsNow =
-    (runRefusalIn (a .verdict) ≡ runRefusal table heard s sums)
-    × ((runNumbersIn a ≡ runNumbers table heard s sums)
-    × ((after ≡ heardAfterRun table heard s sums) × (sumsNow ≡ sumsAfterRun table heard s sums)))
+-- the answer, the heard state and the sums are those of a tally
+pub record Followed (y : Tally) (a : RunAnswer) (after : List ℕ) (sumsNow : List ℤ) : Type 0 where
+  pub answer : a ≡ accepted y
+  pub heard : after ≡ y .heard
+  pub sums : sumsNow ≡ y .sums
+
+-- the answer, and the heard state and the sums afterwards
+pub record Ran (table before s : List ℕ) (lent : List ℤ) (a : RunAnswer) (after : List ℕ) (sumsNow : List ℤ) : Type 0 where
+  pub refusal : runRefusalIn (a .verdict) ≡ runRefusal table before s lent
+  pub numbers : runNumbersIn a ≡ runNumbers table before s lent
+  pub heard : after ≡ heardAfterRun table before s lent
+  pub sums : sumsNow ≡ sumsAfterRun table before s lent
 
 -- any two answers and buffer contents that it allows for one input are equal
 pub one-run : (table heard s : List ℕ) (sums : List ℤ) (a b : RunAnswer) (x y : List ℕ) (p q : List ℤ)
@@ -32,7 +38,7 @@ pub one-run : (table heard s : List ℕ) (sums : List ℤ) (a b : RunAnswer) (x 
     → Ran table heard s sums b y q
     → (a ≡ b) × (x ≡ y) × (p ≡ q)
 one-run table heard s sums a b x y p q c d = (
-  run-tells a b (c .0 ∙ sym (d .0)) (c .1 .0 ∙ sym (d .1 .0)),
-  c .1 .1 .0 ∙ sym (d .1 .1 .0),
-  c .1 .1 .1 ∙ sym (d .1 .1 .1),
+  run-tells a b (c .refusal ∙ sym (d .refusal)) (c .numbers ∙ sym (d .numbers)),
+  c .heard ∙ sym (d .heard),
+  c .sums ∙ sym (d .sums),
 )

@@ -8,15 +8,16 @@ use Rattle.answer.specs.declared.StepAnswer.{StepAnswer}
 use Rattle.answer.specs.Moves.{stepRefusalIn, movementIn}
 use Rattle.answer.specs.MovesLaws.{step-tells}
 
--- in its order: the refusal, the movement and the heard state afterwards
-abbrev pub Stepped : List ℕ → List ℕ → Pair → StepAnswer → List ℕ → Type 0
-Stepped table heard p a after =
-    (stepRefusalIn a ≡ stepRefusal table heard p)
-    × ((movementIn a ≡ stepMovement table heard p) × (after ≡ heardAfterStep table heard p))
+-- the answer and the heard state afterwards
+pub record Stepped (table before : List ℕ) (p : Pair) (a : StepAnswer) (after : List ℕ) : Type 0 where
+  pub refusal : stepRefusalIn a ≡ stepRefusal table before p
+  pub movement : movementIn a ≡ stepMovement table before p
+  pub heard : after ≡ heardAfterStep table before p
 
 -- any two answers and states that it allows for one input are equal
 pub one-step : (table heard : List ℕ) (p : Pair) (a b : StepAnswer) (x y : List ℕ)
     → Stepped table heard p a x
     → Stepped table heard p b y
     → (a ≡ b) × (x ≡ y)
-one-step table heard p a b x y q r = (step-tells a b (q .0 ∙ sym (r .0)) (q .1 .0 ∙ sym (r .1 .0)), q .1 .1 ∙ sym (r .1 .1))
+one-step table heard p a b x y q r =
+    (step-tells a b (q .refusal ∙ sym (r .refusal)) (q .movement ∙ sym (r .movement)), q .heard ∙ sym (r .heard))

@@ -1,26 +1,28 @@
 // The machine: the single step, the run over a schedule, and the choices of a heard state.
-mod asked;
-mod choice;
-mod counts;
 mod judged;
-mod moves;
 mod pair;
-mod rounds;
+mod sums;
 mod work;
 
 ghost use mathlib.Core.Path.{_≡_};
-ghost use Rattle.rules.specs.Answers.{choicesIn, stepRefusal, stepMovement, heardAfterStep, runRefusal, runNumbers, heardAfterRun, sumsAfterRun};
-ghost use Rattle.answer.specs.Moves.{stepRefusalIn, movementIn, runRefusalIn, runNumbersIn};
-use crate::asked::asked_in;
-use crate::choice::choice_bytes;
+ghost use Rattle.rules.specs.Answers.{choicesIn};
+ghost use Rattle.machine.specs.Stepped.{Stepped};
+ghost use Rattle.machine.specs.Ran.{Ran};
 use crate::judged::refusal_of;
 use crate::judged::run_accepted;
 use crate::pair::step_accepted;
 use answer::RunAnswer;
 use answer::StepAnswer;
+use choice::choice_bytes;
+use pairs::next_hops;
 use reader::Reading;
 use reader::read;
-use table_facts::slots_of;
+use rests::asked_bytes;
+
+// The length of a heard state, and the number of sums.
+const HEARD_LENGTH: usize = 4096;
+
+const SUMS_LENGTH: usize = 64;
 
 // The choice of every vertex as a byte, all 0 where the table is refused.
 pub fn choices(table: &[u8], heard: &[u8]) -> [u8; 64]
@@ -28,19 +30,18 @@ pub fn choices(table: &[u8], heard: &[u8]) -> [u8; 64]
 {
     let reading = read(table);
     let Reading::Refused(_, _) = reading else {
-        let slots = slots_of(table);
-        return choice_bytes(table, slots, asked_in(table, slots), heard);
+        let nexts = next_hops(table);
+        let asked = asked_bytes(table);
+        return choice_bytes(&nexts, &asked, heard);
     };
     [0; 64]
 }
 
 // Stores the speaker's present choice, and answers the listener's movement; a refused call changes no byte.
 pub fn step(table: &[u8], heard: &mut [u8], listener: u8, speaker: u8) -> StepAnswer
-    ensures refusal { λ r. ⌜ stepRefusalIn r ≡ stepRefusal (now (table .entry)) (now (heard .entry)) (record { listener = listener; speaker = speaker }) ⌝ }
-    ensures movement { λ r. ⌜ movementIn r ≡ stepMovement (now (table .entry)) (now (heard .entry)) (record { listener = listener; speaker = speaker }) ⌝ }
-    ensures heard { λ r. ⌜ now (heard .exit) ≡ heardAfterStep (now (table .entry)) (now (heard .entry)) (record { listener = listener; speaker = speaker }) ⌝ }
+    ensures { λ r. ⌜ Stepped (now (table .entry)) (now (heard .entry)) (record { listener = listener; speaker = speaker }) r (now (heard .exit)) ⌝ }
 {
-    if heard.len() != 4096 {
+    if heard.len() != HEARD_LENGTH {
         return StepAnswer::Refused(1, 0);
     }
     let reading = read(table);
@@ -52,15 +53,12 @@ pub fn step(table: &[u8], heard: &mut [u8], listener: u8, speaker: u8) -> StepAn
 
 // Works a schedule, and answers what it counted and each vertex's sum; a refused call changes no byte.
 pub fn run(table: &[u8], heard: &mut [u8], schedule: &[u8], sums: &mut [i32]) -> RunAnswer
-    ensures refusal { λ r. ⌜ runRefusalIn (r .verdict) ≡ runRefusal (now (table .entry)) (now (heard .entry)) (now (schedule .entry)) (now (sums .entry)) ⌝ }
-    ensures numbers { λ r. ⌜ runNumbersIn r ≡ runNumbers (now (table .entry)) (now (heard .entry)) (now (schedule .entry)) (now (sums .entry)) ⌝ }
-    ensures heard { λ r. ⌜ now (heard .exit) ≡ heardAfterRun (now (table .entry)) (now (heard .entry)) (now (schedule .entry)) (now (sums .entry)) ⌝ }
-    ensures sums { λ r. ⌜ now (sums .exit) ≡ sumsAfterRun (now (table .entry)) (now (heard .entry)) (now (schedule .entry)) (now (sums .entry)) ⌝ }
+    ensures { λ r. ⌜ Ran (now (table .entry)) (now (heard .entry)) (now (schedule .entry)) (now (sums .entry)) r (now (heard .exit)) (now (sums .exit)) ⌝ }
 {
-    if heard.len() != 4096 {
+    if heard.len() != HEARD_LENGTH {
         return refusal_of(1, 0);
     }
-    if sums.len() != 64 {
+    if sums.len() != SUMS_LENGTH {
         return refusal_of(1, 0);
     }
     let reading = read(table);

@@ -1,53 +1,71 @@
 // The single step: what is judged first, then one pair.
 ghost use mathlib.Core.Path.{_≡_};
 ghost use mathlib.Core.Option.{none};
-ghost use lib.ListN.{length};
+ghost use Prim.Native.Nat.{_<_, _+_, _*_};
+ghost use lib.ListN.{length, set};
 ghost use Rattle.rules.specs.Table.{pathsOf};
 ghost use Rattle.rules.specs.Refusals.{refusal};
 ghost use Rattle.rules.specs.Machine as rules;
-ghost use Rattle.rules.specs.Answers.{stepRefusal, stepMovement, heardAfterStep};
-ghost use Rattle.answer.specs.Moves.{stepRefusalIn, movementIn};
-ghost use Rattle.machine.specs.Moves.{Worked};
-use crate::asked::asked_row;
-use crate::choice::choice_byte;
-use crate::moves::hear;
-use crate::moves::movement;
+ghost use Rattle.choice.specs.Choosing.{choiceByte};
+ghost use Rattle.machine.specs.Working.{Rows, Workable};
+ghost use Rattle.machine.specs.Stepped.{Stepped};
 use admission::bad_offset;
-use admission::is_listening;
 use answer::StepAnswer;
-use table_facts::listening_in;
+use choice::choice_byte;
+use pairs::is_listening;
+use pairs::next_hops;
+use rests::asked_row;
 use table_facts::slots_of;
 use table_facts::spoken_in;
+use tally::movement;
+
+// The length of a heard state.
+const HEARD_LENGTH: usize = 4096;
+
+// Stores what u says at 64v+u, and answers the byte of v's choice then.
+pub(crate) fn hear(nexts: [u8; 16], asked: [u8; 16], heard: &mut [u8], v: u8, u: u8, said: u8) -> u8
+    requires { ⌜ 64 * v + u < length (now heard) ⌝ }
+    ensures heard { λ r. ⌜ now (heard .exit) ≡ set (now (heard .entry)) (64 * v + u) said ⌝ }
+    ensures chosen { λ r. ⌜ r ≡ choiceByte nexts asked (now (heard .exit)) v ⌝ }
+{
+    heard[64 * v as usize + u as usize] = said;
+    choice_byte(nexts, asked, heard, v)
+}
 
 // Works a listening pair of an accepted table, and answers the listener's movement.
-fn work_pair(table: &[u8], heard: &mut [u8], v: usize, u: usize) -> i32
-    requires { ⌜ Worked (now table) (now heard) v u ⌝ }
+fn work_pair(table: &[u8], nexts: &[[u8; 16]; 64], heard: &mut [u8], v: u8, u: u8) -> i32
+    requires { ⌜ Workable (now table) (now heard) v u × Rows (pathsOf (now table)) (now nexts) ⌝ }
     ensures movement { λ r. ⌜ r ≡ rules.movement (pathsOf (now (table .entry))) (now (heard .entry)) (record { listener = v; speaker = u }) ⌝ }
     ensures heard { λ r. ⌜ now (heard .exit) ≡ rules.step (pathsOf (now (table .entry))) (now (heard .entry)) (record { listener = v; speaker = u }) ⌝ }
 {
     let slots = slots_of(table);
-    let asked = asked_row(table, slots, v);
-    let old = choice_byte(table, slots[v], asked, heard, v);
-    let said = choice_byte(table, slots[u], asked_row(table, slots, u), heard, u);
-    let new = hear(table, slots[v], asked, heard, v, u, said);
+    let mine = slots[v as usize];
+    let theirs = slots[u as usize];
+    let asked = asked_row(table, &slots, mine);
+    let old = choice_byte(nexts[v as usize], asked, heard, v);
+    let said = choice_byte(
+        nexts[u as usize],
+        asked_row(table, &slots, theirs),
+        heard,
+        u,
+    );
+    let new = hear(nexts[v as usize], asked, heard, v, u, said);
     movement(old, new)
 }
 
 // The step over an accepted table: the state is judged, then the pair.
 pub(crate) fn step_accepted(table: &[u8], heard: &mut [u8], listener: u8, speaker: u8) -> StepAnswer
     requires { ⌜ (refusal (now table) ≡ none) × (length (now heard) ≡ 4096) ⌝ }
-    ensures refusal { λ r. ⌜ stepRefusalIn r ≡ stepRefusal (now (table .entry)) (now (heard .entry)) (record { listener = listener; speaker = speaker }) ⌝ }
-    ensures movement { λ r. ⌜ movementIn r ≡ stepMovement (now (table .entry)) (now (heard .entry)) (record { listener = listener; speaker = speaker }) ⌝ }
-    ensures heard { λ r. ⌜ now (heard .exit) ≡ heardAfterStep (now (table .entry)) (now (heard .entry)) (record { listener = listener; speaker = speaker }) ⌝ }
+    ensures { λ r. ⌜ Stepped (now (table .entry)) (now (heard .entry)) (record { listener = listener; speaker = speaker }) r (now (heard .exit)) ⌝ }
 {
-    let listening = listening_in(table);
+    let nexts = next_hops(table);
     let most = spoken_in(table);
-    let at = bad_offset(&listening, &most, heard);
-    if at != 4096 {
+    let at = bad_offset(&nexts, &most, heard);
+    if at != HEARD_LENGTH {
         return StepAnswer::Refused(12, at);
     }
-    if !is_listening(&listening, listener, speaker) {
+    if !is_listening(&nexts, listener, speaker) {
         return StepAnswer::Refused(14, 0);
     }
-    StepAnswer::Moved(work_pair(table, heard, listener as usize, speaker as usize))
+    StepAnswer::Moved(work_pair(table, &nexts, heard, listener, speaker))
 }

@@ -1,26 +1,25 @@
 // The run over an accepted schedule: what serves every step is found once, then the pairs are worked one after the other.
 ghost use mathlib.Core.Path.{_≡_};
 ghost use Prim.Native.Nat.{_≤_};
-ghost use lib.IntN.{pos};
-ghost use Rattle.lists.specs.Fill.{tabulate};
-ghost use Rattle.rules.specs.Table.{pathsOf, listensAt};
+ghost use Rattle.rules.specs.Table.{pathsOf};
 ghost use Rattle.rules.specs.Run.{pairsIn, run};
-ghost use Rattle.machine.specs.Going.{Ready, Prepared};
-ghost use Rattle.machine.specs.Ran.{accepted};
-use crate::asked::asked_in;
-use crate::choice::choice_bytes;
-use crate::counts::Counts;
-use crate::counts::counted;
-use crate::moves::add;
-use crate::moves::clear;
-use crate::moves::hear;
-use crate::moves::movement;
-use crate::rounds::Rounds;
-use crate::rounds::activate;
-use crate::rounds::count_pairs;
+ghost use Rattle.machine.specs.Working.{Rows};
+ghost use Rattle.machine.specs.Going.{Ready};
+ghost use Rattle.machine.specs.Ran.{Followed};
+use crate::pair::hear;
+use crate::sums::add;
+use crate::sums::clear;
 use answer::RunAnswer;
 use answer::RunVerdict;
-use table_facts::slots_of;
+use choice::choice_bytes;
+use pairs::count_pairs;
+use pairs::slot_to;
+use rests::asked_bytes;
+use tally::Counts;
+use tally::Rounds;
+use tally::activate;
+use tally::counted;
+use tally::movement;
 
 // The answer of an accepted run.
 fn answer_of(steps: usize, counts: Counts, rounds: Rounds) -> RunAnswer
@@ -37,23 +36,22 @@ fn answer_of(steps: usize, counts: Counts, rounds: Rounds) -> RunAnswer
     }
 }
 
-// Works the pairs one after the other; the sums begin at 0.
-fn work_pairs(
-    t: &[u8],
-    slots: [[u16; 16]; 64],
-    asked: [[u8; 16]; 64],
-    all: u16,
+// Works a schedule that listens throughout, and answers what it counted; the sums begin at 0.
+pub(crate) fn work(
+    table: &[u8],
+    nexts: &[[u8; 16]; 64],
     heard: &mut [u8],
     schedule: &[u8],
     sums: &mut [i32],
 ) -> RunAnswer
-    requires { ⌜ Ready (now t) (now heard) (now schedule) (now sums) × Prepared (now t) slots asked all × (now sums ≡ tabulate (λ v. pos 0) 64) ⌝ }
-    ensures answer { λ r. ⌜ r ≡ accepted (run (pathsOf (now (t .entry))) (now (heard .entry)) (pairsIn (now (schedule .entry)))) ⌝ }
-    ensures heard { λ r. ⌜ now (heard .exit) ≡ run (pathsOf (now (t .entry))) (now (heard .entry)) (pairsIn (now (schedule .entry))) .heard ⌝ }
-    ensures sums { λ r. ⌜ now (sums .exit) ≡ run (pathsOf (now (t .entry))) (now (heard .entry)) (pairsIn (now (schedule .entry))) .sums ⌝ }
+    requires { ⌜ Ready (now table) (now heard) (now schedule) (now sums) × Rows (pathsOf (now table)) (now nexts) ⌝ }
+    ensures { λ r. ⌜ Followed (run (pathsOf (now (table .entry))) (now (heard .entry)) (pairsIn (now (schedule .entry)))) r (now (heard .exit)) (now (sums .exit)) ⌝ }
 {
-    let mut choices = choice_bytes(t, slots, asked, heard);
-    let mut stamps = [0u16; 4096];
+    let asked = asked_bytes(table);
+    let all = count_pairs(nexts);
+    clear(sums);
+    let mut choices = choice_bytes(nexts, &asked, heard);
+    let mut stamps = [0u16; 1024];
     let mut counts = Counts {
         ups: 0,
         downs: 0,
@@ -65,35 +63,22 @@ fn work_pairs(
     };
     let mut i = 0;
     while i < schedule.len() / 2 {
-        let v = schedule[2 * i] as usize;
-        let u = schedule[2 * i + 1] as usize;
+        let listener = schedule[2 * i];
+        let speaker = schedule[2 * i + 1];
         i += 1;
+        let v = listener as usize;
         let old = choices[v];
-        let new = hear(t, slots[v], asked[v], heard, v, u, choices[u]);
+        let said = choices[speaker as usize];
+        let new = hear(nexts[v], asked[v], heard, listener, speaker, said);
         choices[v] = new;
         add(sums, v, movement(old, new));
         counts = counted(counts, i as u32, old, new);
-        rounds = activate(&mut stamps, v * 64 + u, rounds, all);
+        rounds = activate(
+            &mut stamps,
+            16 * v + slot_to(nexts[v], speaker),
+            rounds,
+            all,
+        );
     }
     answer_of(i, counts, rounds)
-}
-
-// Works a schedule that listens throughout, and answers what it counted.
-pub(crate) fn work(
-    t: &[u8],
-    listening: &[bool],
-    heard: &mut [u8],
-    schedule: &[u8],
-    sums: &mut [i32],
-) -> RunAnswer
-    requires { ⌜ Ready (now t) (now heard) (now schedule) (now sums) × (now listening ≡ tabulate (listensAt (pathsOf (now t))) 4096) ⌝ }
-    ensures answer { λ r. ⌜ r ≡ accepted (run (pathsOf (now (t .entry))) (now (heard .entry)) (pairsIn (now (schedule .entry)))) ⌝ }
-    ensures heard { λ r. ⌜ now (heard .exit) ≡ run (pathsOf (now (t .entry))) (now (heard .entry)) (pairsIn (now (schedule .entry))) .heard ⌝ }
-    ensures sums { λ r. ⌜ now (sums .exit) ≡ run (pathsOf (now (t .entry))) (now (heard .entry)) (pairsIn (now (schedule .entry))) .sums ⌝ }
-{
-    let slots = slots_of(t);
-    let asked = asked_in(t, slots);
-    let all = count_pairs(listening);
-    clear(sums);
-    work_pairs(t, slots, asked, all, heard, schedule, sums)
 }

@@ -60,9 +60,9 @@ module _ (nexts : List ℕ) (u : ℕ) where
       not-both : there k ≡ false → ⊥
       not-both f = true≢ (eq-eqb (getD nexts k 0) u e) f
 
-  pub slot-most : slotTo nexts u ≤ 16
+  pub slot-small : (k : ℕ) → k ≡ slotTo nexts u → k ≤ 16
   unfolding slotTo
-  slot-most =
+  slot-small k e =
       by-option (firstFrom there 0 16)
       (λ q. let z : slotTo nexts u ≡ 16 = rw (q, slotTo) in omega arith)
       (λ j q. let z : slotTo nexts u ≡ j = rw (q, slotTo) in omega (arith, first-found there 0 16 j q .under))
@@ -264,3 +264,8 @@ module _ (paths : ℕ → List Path) (present : ℕ → Bool) (shaped : Shaped p
       ∙ ap (λ n. getD (getD nexts (j / 64) []) n 0) s ∙ ap (λ n. getD (getD nexts n []) b 0) v
       ∙ slot-leads (getD nexts (k / 64) []) (k % 64) (pair-slot k l f) in
       omega (arith, v, u)
+
+-- the number of a pair, by its vertices
+pub number-of : (nexts : List (List ℕ)) (v u : ℕ) → u < 64 → pairNumber nexts (64 * v + u) ≡ 16 * v + slotTo (getD nexts v []) u
+unfolding pairNumber
+number-of nexts v u h = rw (told-first v u h, told-second v u h)

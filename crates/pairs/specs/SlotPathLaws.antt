@@ -153,7 +153,6 @@ slotted-told t slots e = ap (heldIn t) e
 -- the slots of an accepted table
 
 module _ (t : List ℕ) (e : refusal t ≡ none) where
-
   -- past the vertices nobody has a path
   none-past : (v : ℕ) → 64 ≤ v → pathsOf t v ≡ []
   none-past v h =

@@ -16,6 +16,7 @@ use table_facts::slots_of;
 const NO_RECORD: u16 = 65535;
 // The number of vertices, and of a vertex's slots.
 const VERTICES: u8 = 64;
+
 const SLOTS: usize = 16;
 
 // The place of a path among those of a row of slots, from 1; 0 where it is not there.

@@ -9,6 +9,7 @@ ghost use Rattle.tally.specs.Stamps.{newlyAt, missingAfter, Activated};
 
 // The greatest of 32 bits and of 16 bits, where a count stays.
 const MOST_STEPS: u32 = 4294967295;
+
 const MOST_ROUNDS: u16 = 65535;
 // What a rank is taken from.
 const STANDING_OF_RANK_0: u8 = 17;

@@ -3,7 +3,6 @@
 use mathlib.Core.Path.{sym, _∙_}
 use borrow.Author.Needs.{needs}
 use Rattle.reader.specs.ReadingLaws.{reading-accepted, reading-refused}
-use Rattle.machine.specs.AskedLaws.{all-slots}
 use Rattle.machine.specs.StepLaws.{choices-accepted, choices-refused}
 use Rattle.machine.proofs.choices.Statement.{statement}
 use Rattle.machine.proofs.choices.Tie as tie
@@ -17,26 +16,22 @@ enum-told c = search needs
 enum-told-2 : tie.Need-enum-told-2
 enum-told-2 c = search needs
 
-slots-of-requires : tie.Need-slots-of-requires
-slots-of-requires c κs = tt
+next-hops-requires : tie.Need-next-hops-requires
+next-hops-requires c κs = tt
 
-asked-in-requires : tie.Need-asked-in-requires
-asked-in-requires c κs =
-    let b3 = c .before .before .before in
-    all-slots _ _ (reading-accepted _ (sym (c .before .enum-told2 .given .1) ∙ b3 .read .ensures)) (c .slots-of .ensures)
+asked-bytes-requires : tie.Need-asked-bytes-requires
+asked-bytes-requires c κs = tt
 
 choice-bytes-requires : tie.Need-choice-bytes-requires
-choice-bytes-requires c κs =
-    let b4 = c .before .before .before .before in (
-      all-slots _ _ (reading-accepted _ (sym (c .before .before .enum-told2 .given .1) ∙ b4 .read .ensures)) (c .before .slots-of .ensures),
-      c .asked-in .ensures,
-    )
+choice-bytes-requires c κs = tt
 
 returns : tie.Need-returns
 returns c =
-    let b3 = c .before .before .before in
-    let b5 = b3 .before .before in
-    choices-accepted _ _ _ (reading-accepted _ (sym (b3 .enum-told2 .given .1) ∙ b5 .read .ensures)) (c .choice-bytes .ensures)
+    let at-asked = c .before .before .before in
+    let at-nexts = at-asked .before in
+    let at-told = at-nexts .before in
+    choices-accepted _ _ _ _ _ (reading-accepted _ (sym (at-told .enum-told2 .given .1) ∙ at-told .before .before .read .ensures))
+    (at-nexts .next-hops .ensures) (at-asked .asked-bytes .ensures) (c .choice-bytes .ensures)
 
 returns-2 : tie.Need-returns-2
 returns-2 c = choices-refused _ _ _ (reading-refused _ _ _ (sym (c .enum-told .given .1) ∙ c .before .before .read .ensures))
@@ -48,8 +43,8 @@ choices-spec =
     read-requires
     enum-told
     enum-told-2
-    slots-of-requires
-    asked-in-requires
+    next-hops-requires
+    asked-bytes-requires
     choice-bytes-requires
     returns
     returns-2)

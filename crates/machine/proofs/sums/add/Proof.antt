@@ -1,9 +1,9 @@
--- `machine::moves::add` meets its contract: the sum fits, as its contract asks.
+-- `machine::sums::add` meets its contract: the sum fits, as its contract asks.
 -- Assumes nothing.
 use borrow.Author.Needs.{needs}
-use Rattle.machine.specs.MoveLaws.{small-fits}
-use Rattle.machine.proofs.moves.add.Statement.{statement}
-use Rattle.machine.proofs.moves.add.Tie as tie
+use Rattle.tally.specs.CountingLaws.{small-fits}
+use Rattle.machine.proofs.sums.add.Statement.{statement}
+use Rattle.machine.proofs.sums.add.Tie as tie
 
 mul-sums : tie.Need-mul-sums
 mul-sums c = search needs

@@ -1,4 +1,4 @@
--- `machine::moves::clear` meets its contract: the sums before v are 0.
+-- `machine::sums::clear` meets its contract: the sums before v are 0.
 -- Assumes nothing.
 use mathlib.Core.Path.{_≡_, refl, sym, _∙_}
 use Prim.Native.Nat.{_≤_, _-_}
@@ -7,8 +7,8 @@ use lib.ListN.{length, take, length-set}
 use lib.IntN.{pos}
 use Rattle.lists.specs.Fill.{tabulate}
 use Rattle.lists.specs.FillLaws.{tabulate-none, fill-more, fill-end}
-use Rattle.machine.proofs.moves.clear.Statement.{statement}
-use Rattle.machine.proofs.moves.clear.Tie as tie
+use Rattle.machine.proofs.sums.clear.Statement.{statement}
+use Rattle.machine.proofs.sums.clear.Tie as tie
 
 abbrev Inv-loop : tie.InvT-loop
 Inv-loop sums₀ v₀ sums v = (v ≤ 64) × (length sums ≡ 64) × (take v sums ≡ tabulate (λ u. pos 0) v)
