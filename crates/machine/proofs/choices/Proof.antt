@@ -3,7 +3,7 @@
 use mathlib.Core.Path.{sym, _∙_}
 use borrow.Author.Needs.{needs}
 use Rattle.reader.specs.ReadingLaws.{reading-accepted, reading-refused}
-use Rattle.machine.specs.StepLaws.{choices-accepted, choices-refused}
+use Rattle.stepper.specs.StepLaws.{choices-accepted, choices-refused}
 use Rattle.machine.proofs.choices.Statement.{statement}
 use Rattle.machine.proofs.choices.Tie as tie
 

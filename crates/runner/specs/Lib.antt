@@ -1,0 +1,5 @@
+-- A run on its way; the contract of the run, and each way through it.
+pub mod Ran
+pub mod Going
+pub mod GoingLaws
+pub mod RanLaws

@@ -1,0 +1,97 @@
+-- `stepper::work_pair` meets its contract: the bytes before and after give the movement.
+-- Assumes nothing.
+use native.Mathlib.Omega.{arith}
+use Rattle.stepper.specs.StepLaws.{pair-worked}
+use Rattle.stepper.proofs.work_pair.Statement.{statement}
+use Rattle.stepper.proofs.work_pair.Tie as tie
+
+slots-of-requires : tie.Need-slots-of-requires
+slots-of-requires c κs = omega arith
+
+mul-mine : tie.Need-mul-mine
+mul-mine c = omega arith
+
+array-copy-out-mine : tie.Need-array-copy-out-mine
+array-copy-out-mine c = omega arith
+
+mul-theirs : tie.Need-mul-theirs
+mul-theirs c = omega arith
+
+array-copy-out-theirs : tie.Need-array-copy-out-theirs
+array-copy-out-theirs c = omega arith
+
+asked-row-requires : tie.Need-asked-row-requires
+asked-row-requires c κs = omega arith
+
+mul-choice-byte : tie.Need-mul-choice-byte
+mul-choice-byte c = omega arith
+
+element-copy-out-choice-byte : tie.Need-element-copy-out-choice-byte
+element-copy-out-choice-byte c = omega arith
+
+choice-byte-requires : tie.Need-choice-byte-requires
+choice-byte-requires c κs = omega arith
+
+mul-choice-byte-2 : tie.Need-mul-choice-byte-2
+mul-choice-byte-2 c = omega arith
+
+element-copy-out-choice-byte-2 : tie.Need-element-copy-out-choice-byte-2
+element-copy-out-choice-byte-2 c = omega arith
+
+asked-row-requires-2 : tie.Need-asked-row-requires-2
+asked-row-requires-2 c κs = omega arith
+
+choice-byte-requires-2 : tie.Need-choice-byte-requires-2
+choice-byte-requires-2 c κs = omega arith
+
+mul-hear : tie.Need-mul-hear
+mul-hear c = omega arith
+
+element-copy-out-hear : tie.Need-element-copy-out-hear
+element-copy-out-hear c = omega arith
+
+hear-requires : tie.Need-hear-requires
+hear-requires c κs = omega arith
+
+movement-requires : tie.Need-movement-requires
+movement-requires c κs = omega arith
+
+same-length : tie.Need-same-length
+same-length c = omega arith
+
+returns : tie.Need-returns
+returns c =
+    let at-hear = c .before .before .before in
+    let at-said = at-hear .before .before .before in
+    let at-theirs = at-said .before .before in
+    let at-old = at-theirs .before .before .before in
+    let at-mine = at-old .before .before .before in
+    let at-slots = at-mine .before .before .before .before in
+    let p = at-slots .before .before .before .pre in
+    let h = at-hear .hear .ensures in
+    pair-worked (p .0) _ (p .1) _ (at-slots .slots-of .ensures) _ _ (at-mine .asked-row .ensures) (at-theirs .asked-row2 .ensures)
+    _ _ _ _ (at-old .choice-byte .ensures) (at-said .choice-byte2 .ensures) (h .stored) (h .chosen) _ (c .movement .ensures)
+
+pub work-pair-spec : {M : Type 1} → statement M
+work-pair-spec =
+    tie.close
+    (tie.spec
+    slots-of-requires
+    mul-mine
+    array-copy-out-mine
+    mul-theirs
+    array-copy-out-theirs
+    asked-row-requires
+    mul-choice-byte
+    element-copy-out-choice-byte
+    choice-byte-requires
+    mul-choice-byte-2
+    element-copy-out-choice-byte-2
+    asked-row-requires-2
+    choice-byte-requires-2
+    mul-hear
+    element-copy-out-hear
+    hear-requires
+    movement-requires
+    same-length
+    returns)
