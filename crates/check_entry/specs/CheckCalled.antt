@@ -5,11 +5,11 @@ use Prim.Native.Nat.{ℕ}
 use Rattle.rules.specs.Entries.{codeOf, checkRefusalForC, rowsForC, ringForC, checkNumbersForC}
 
 -- Of a table and the lent rows, ring and numbers: the code, and what the three hold afterwards.
-pub record CheckCalled (t r g n : List ℕ) (answered : ℕ) (rowsNow ringNow numbersNow : List ℕ) : Type 0 where
-  pub code : answered ≡ codeOf (checkRefusalForC t r g n)
-  pub rows : rowsNow ≡ rowsForC t r g n
-  pub ring : ringNow ≡ ringForC t r g n
-  pub numbers : numbersNow ≡ checkNumbersForC t r g n
+pub record CheckCalled (t rows₀ ring₀ numbers₀ : List ℕ) (answered : ℕ) (rowsNow ringNow numbersNow : List ℕ) : Type 0 where
+  pub code : answered ≡ codeOf (checkRefusalForC t rows₀ ring₀ numbers₀)
+  pub rows : rowsNow ≡ rowsForC t rows₀ ring₀ numbers₀
+  pub ring : ringNow ≡ ringForC t rows₀ ring₀ numbers₀
+  pub numbers : numbersNow ≡ checkNumbersForC t rows₀ ring₀ numbers₀
 
 -- any two codes and buffer contents that it allows for one input are equal
 pub one-check-call : (t rows ring numbers : List ℕ) (a b : ℕ) (r s p q x y : List ℕ)

@@ -207,8 +207,11 @@ pub collectable : (t heard : List ℕ) (calls : List Call)
     → Collected t rows ring numbers (rowsForC t rows ring numbers) (ringForC t rows ring numbers) (checkNumbersForC t rows ring numbers) heard (seenOf t heard calls)
 collectable t heard calls accepted valid each rows ring numbers d e f =
     let none-left = check-same t rows ring numbers f ∙ lent-right t rows ring d e ∙ accepted in
-    let check = record { code = sym (code-none _ none-left); rows = refl; ring = refl; numbers = refl } in
-    record { check = check; state = valid; calls = all-seen t heard calls each }
+    record {
+      check = record { code = sym (code-none _ none-left); rows = refl; ring = refl; numbers = refl };
+      state = valid;
+      calls = all-seen t heard calls each;
+    }
 
 module _ (t rows ring numbers rowsNow ringNow numbersNow heard : List ℕ) (rs : List Seen)
     (held : Collected t rows ring numbers rowsNow ringNow numbersNow heard rs) where

@@ -5,11 +5,11 @@ use Prim.Native.Nat.{ℕ}
 use Rattle.rules.specs.Entries.{codeOf, runRefusalForC, heardRunForC, sumsForC, runNumbersForC}
 
 -- Of a table, the lent heard state, a schedule and the lent sums and numbers: the code, and what the three hold afterwards.
-pub record RunCalled (t h s m n : List ℕ) (answered : ℕ) (heardNow sumsNow numbersNow : List ℕ) : Type 0 where
-  pub code : answered ≡ codeOf (runRefusalForC t h s m n)
-  pub heard : heardNow ≡ heardRunForC t h s m n
-  pub sums : sumsNow ≡ sumsForC t h s m n
-  pub numbers : numbersNow ≡ runNumbersForC t h s m n
+pub record RunCalled (t heard₀ s sums₀ numbers₀ : List ℕ) (answered : ℕ) (heardNow sumsNow numbersNow : List ℕ) : Type 0 where
+  pub code : answered ≡ codeOf (runRefusalForC t heard₀ s sums₀ numbers₀)
+  pub heard : heardNow ≡ heardRunForC t heard₀ s sums₀ numbers₀
+  pub sums : sumsNow ≡ sumsForC t heard₀ s sums₀ numbers₀
+  pub numbers : numbersNow ≡ runNumbersForC t heard₀ s sums₀ numbers₀
 
 -- any two codes and buffer contents that it allows for one input are equal
 pub one-run-call : (t heard schedule sums numbers : List ℕ) (a b : ℕ) (r s p q x y : List ℕ)

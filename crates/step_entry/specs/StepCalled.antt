@@ -6,10 +6,10 @@ use Rattle.rules.specs.Machine.{Pair}
 use Rattle.rules.specs.Entries.{codeOf, stepRefusalForC, heardStepForC, stepNumbersForC}
 
 -- Of a table, the lent heard state, a pair and the lent numbers: the code, and what the two hold afterwards.
-pub record StepCalled (t h : List ℕ) (p : Pair) (n : List ℕ) (answered : ℕ) (heardNow numbersNow : List ℕ) : Type 0 where
-  pub code : answered ≡ codeOf (stepRefusalForC t h p n)
-  pub heard : heardNow ≡ heardStepForC t h p n
-  pub numbers : numbersNow ≡ stepNumbersForC t h p n
+pub record StepCalled (t heard₀ : List ℕ) (p : Pair) (numbers₀ : List ℕ) (answered : ℕ) (heardNow numbersNow : List ℕ) : Type 0 where
+  pub code : answered ≡ codeOf (stepRefusalForC t heard₀ p numbers₀)
+  pub heard : heardNow ≡ heardStepForC t heard₀ p numbers₀
+  pub numbers : numbersNow ≡ stepNumbersForC t heard₀ p numbers₀
 
 -- any two codes and buffer contents that it allows for one input are equal
 pub one-step-call : (t heard : List ℕ) (pair : Pair) (numbers : List ℕ) (a b : ℕ) (r s x y : List ℕ)
