@@ -1,6 +1,6 @@
 -- Each way through the check's entry: a buffer of another length, a refusal of the library, and an accepted call.
 use mathlib.Core.Path.{_≡_, sym, ap, _∙_}
-use mathlib.Core.List.{List, [], _∷_}
+use mathlib.Core.List.{List}
 use mathlib.Core.Option.{none}
 use Prim.Native.Nat.{ℕ, _<_}
 use lib.ListN.{length}
@@ -18,11 +18,7 @@ use Rattle.checker.specs.Checked.{Checked}
 use Rattle.words.specs.Words.{overwritten}
 use Rattle.words.specs.WordLaws.{over-same, numbers-size}
 use Rattle.words.specs.CodeLaws.{accepted-code, length-code, kept, renewed, as-left}
-use Rattle.check_entry.specs.CheckCalled.{CheckCalled}
-
--- the check's numbers with n vertices in the ring
-abbrev pub told : ℕ → Answer → List ℕ
-told n a = n ∷ a .settled ∷ a .stuck ∷ a .stages ∷ a .longest ∷ []
+use Rattle.check_entry.specs.CheckCalled.{told, CheckCalled}
 
 module _ (t rows ring lent : List ℕ) where
   pub check-not-lent : (length lent ≡ 32 → ⊥) → CheckCalled t rows ring lent 1 rows ring lent

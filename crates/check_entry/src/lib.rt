@@ -1,9 +1,8 @@
 // The check's entry for C: the library's check, and its answer as words.
 ghost use mathlib.Core.Path.{_≡_};
-ghost use mathlib.Core.List.{[], _∷_};
 ghost use Rattle.rules.specs.Entries.{numberBytes};
 ghost use Rattle.words.specs.Words.{overwritten};
-ghost use Rattle.check_entry.specs.CheckCalled.{CheckCalled};
+ghost use Rattle.check_entry.specs.CheckCalled.{told, CheckCalled};
 use answer::Answer;
 use answer::Verdict;
 use checker::check;
@@ -16,7 +15,7 @@ const WRONG_LENGTH: u64 = 1;
 
 // Writes the check's numbers; the ring's length comes from the verdict.
 fn write_check(bytes: &mut [u8], count: u8, answer: Answer)
-    ensures { λ r. ⌜ now (bytes .exit) ≡ overwritten (numberBytes (count ∷ answer .settled ∷ answer .stuck ∷ answer .stages ∷ answer .longest ∷ [])) (now (bytes .entry)) ⌝ }
+    ensures { λ r. ⌜ now (bytes .exit) ≡ overwritten (numberBytes (told count answer)) (now (bytes .entry)) ⌝ }
 {
     let told = [
         count as u32,
@@ -33,7 +32,8 @@ fn write_check(bytes: &mut [u8], count: u8, answer: Answer)
 
 // Checks a table; on 0 the rows, the ring and the numbers are filled, otherwise no byte changes.
 pub fn check_for_c(table: &[u8], rows: &mut [u8], ring: &mut [u8], numbers: &mut [u8]) -> u64
-    ensures { λ r. ⌜ CheckCalled (now (table .entry)) (now (rows .entry)) (now (ring .entry)) (now (numbers .entry)) r (now (rows .exit)) (now (ring .exit)) (now (numbers .exit)) ⌝ }
+    ensures { λ r. ⌜ CheckCalled (now (table .entry)) (now (rows .entry)) (now (ring .entry)) (now (numbers .entry))
+        r (now (rows .exit)) (now (ring .exit)) (now (numbers .exit)) ⌝ }
 {
     if numbers.len() != NUMBERS_LENGTH {
         return WRONG_LENGTH;

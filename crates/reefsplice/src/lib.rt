@@ -1,4 +1,5 @@
-// What the carriers' collector calls from C: a static library exports the functions of its own crate alone, so each entry is passed on here.
+// What the carriers' collector calls from C. A static library exports the functions of its own crate alone, so each entry
+// is here, and passes on to its body's crate.
 ghost use Rattle.check_entry.specs.CheckCalled.{CheckCalled};
 ghost use Rattle.step_entry.specs.StepCalled.{StepCalled};
 ghost use Rattle.run_entry.specs.RunCalled.{RunCalled};
@@ -14,7 +15,8 @@ pub extern "C" fn reefsplice_check(
     ring: &mut [u8],
     numbers: &mut [u8],
 ) -> u64
-    ensures { λ r. ⌜ CheckCalled (now (table .entry)) (now (rows .entry)) (now (ring .entry)) (now (numbers .entry)) r (now (rows .exit)) (now (ring .exit)) (now (numbers .exit)) ⌝ }
+    ensures { λ r. ⌜ CheckCalled (now (table .entry)) (now (rows .entry)) (now (ring .entry)) (now (numbers .entry))
+        r (now (rows .exit)) (now (ring .exit)) (now (numbers .exit)) ⌝ }
 {
     check_for_c(table, rows, ring, numbers)
 }
@@ -28,7 +30,9 @@ pub extern "C" fn reefsplice_step(
     speaker: u8,
     numbers: &mut [u8],
 ) -> u64
-    ensures { λ r. ⌜ StepCalled (now (table .entry)) (now (heard .entry)) (record { listener = listener; speaker = speaker }) (now (numbers .entry)) r (now (heard .exit)) (now (numbers .exit)) ⌝ }
+    ensures { λ r. ⌜ StepCalled (now (table .entry)) (now (heard .entry))
+        (record { listener = listener; speaker = speaker }) (now (numbers .entry))
+        r (now (heard .exit)) (now (numbers .exit)) ⌝ }
 {
     step_for_c(table, heard, listener, speaker, numbers)
 }
@@ -42,7 +46,9 @@ pub extern "C" fn reefsplice_run(
     sums: &mut [u8],
     numbers: &mut [u8],
 ) -> u64
-    ensures { λ r. ⌜ RunCalled (now (table .entry)) (now (heard .entry)) (now (schedule .entry)) (now (sums .entry)) (now (numbers .entry)) r (now (heard .exit)) (now (sums .exit)) (now (numbers .exit)) ⌝ }
+    ensures { λ r. ⌜ RunCalled (now (table .entry)) (now (heard .entry)) (now (schedule .entry))
+        (now (sums .entry)) (now (numbers .entry))
+        r (now (heard .exit)) (now (sums .exit)) (now (numbers .exit)) ⌝ }
 {
     run_for_c(table, heard, schedule, sums, numbers)
 }

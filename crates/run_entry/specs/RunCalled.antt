@@ -4,7 +4,7 @@ use mathlib.Core.List.{List}
 use Prim.Native.Nat.{ℕ}
 use Rattle.rules.specs.Entries.{codeOf, runRefusalForC, heardRunForC, sumsForC, runNumbersForC}
 
--- Of a table, the lent heard state, a schedule and the lent sums and numbers: the code, and what the three hold afterwards.
+-- Of a table, the lent heard state, a schedule, the lent sums and numbers: the code, and what the three hold afterwards.
 pub record RunCalled (t heard₀ s sums₀ numbers₀ : List ℕ) (answered : ℕ) (heardNow sumsNow numbersNow : List ℕ) : Type 0 where
   pub code : answered ≡ codeOf (runRefusalForC t heard₀ s sums₀ numbers₀)
   pub heard : heardNow ≡ heardRunForC t heard₀ s sums₀ numbers₀

@@ -44,7 +44,9 @@ pub fn run_for_c(
     sums: &mut [u8],
     numbers: &mut [u8],
 ) -> u64
-    ensures { λ r. ⌜ RunCalled (now (table .entry)) (now (heard .entry)) (now (schedule .entry)) (now (sums .entry)) (now (numbers .entry)) r (now (heard .exit)) (now (sums .exit)) (now (numbers .exit)) ⌝ }
+    ensures { λ r. ⌜ RunCalled (now (table .entry)) (now (heard .entry)) (now (schedule .entry))
+        (now (sums .entry)) (now (numbers .entry))
+        r (now (heard .exit)) (now (sums .exit)) (now (numbers .exit)) ⌝ }
 {
     if sums.len() != SUMS_LENGTH {
         return WRONG_LENGTH;

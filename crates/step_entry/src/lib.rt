@@ -18,7 +18,9 @@ pub fn step_for_c(
     speaker: u8,
     numbers: &mut [u8],
 ) -> u64
-    ensures { λ r. ⌜ StepCalled (now (table .entry)) (now (heard .entry)) (record { listener = listener; speaker = speaker }) (now (numbers .entry)) r (now (heard .exit)) (now (numbers .exit)) ⌝ }
+    ensures { λ r. ⌜ StepCalled (now (table .entry)) (now (heard .entry))
+        (record { listener = listener; speaker = speaker }) (now (numbers .entry))
+        r (now (heard .exit)) (now (numbers .exit)) ⌝ }
 {
     if numbers.len() != NUMBERS_LENGTH {
         return WRONG_LENGTH;
