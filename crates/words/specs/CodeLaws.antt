@@ -1,6 +1,6 @@
 -- What an entry for C answers and leaves, by its refusal.
 use mathlib.Core.Path.{_≡_, sym, ap}
-use mathlib.Core.Option.{Option, none, some}
+use mathlib.Core.Option.{Option, none}
 use Prim.Native.Nat.{ℕ}
 use Rattle.rules.specs.Refusals.{Refusal}
 use Rattle.rules.specs.Answers.{unless}

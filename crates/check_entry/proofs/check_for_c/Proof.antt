@@ -1,7 +1,6 @@
 -- `check_entry::check_for_c` meets its contract: a wrong buffer, each verdict, and the numbers that go with it.
 -- Assumes nothing.
 use borrow.Author.Needs.{needs}
-use Prim.Native.Nat.{_<_}
 use native.Mathlib.Omega.{arith}
 use mathlib.Core.Path.{refl}
 use Rattle.check_entry.specs.CheckCallLaws.{check-not-lent, check-complete, check-stuck, check-refused, check-small}

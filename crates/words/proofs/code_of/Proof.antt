@@ -1,6 +1,5 @@
 -- `words::code_of` meets its contract: the definition's sum.
 -- Assumes nothing.
-use mathlib.Core.Path.{refl}
 use borrow.Author.Needs.{needs}
 use Rattle.rules.specs.Entries.{codeOf}
 use Rattle.words.proofs.code_of.Statement.{statement}

@@ -17,7 +17,9 @@ abbrev μ-loop : tie.MeasureT-loop
 μ-loop bytes₀ words k₀ bytes k = length words - k
 
 loop-holds : tie.Need-loop-holds Inv-loop μ-loop
-loop-holds c = (omega arith, c .before .before .pre, words-none _ (c .before .before .args .bytes .now))
+loop-holds c =
+    let at-call = c .before .before in
+    (omega arith, at-call .pre, words-none _ (at-call .args .bytes .now))
 
 mul-at : tie.Need-mul-at Inv-loop μ-loop
 mul-at c = omega arith
@@ -42,8 +44,8 @@ shared-slice-read-write-word c = omega arith
 
 write-word-requires : tie.Need-write-word-requires Inv-loop μ-loop
 write-word-requires c κs =
-    let a = c .before .before .before in
-    part-length (a .loop .bytes) (a .loop .k * 4) 4 (omega arith)
+    let l = c .before .before .before .loop in
+    part-length (l .bytes) (l .k * 4) 4 (omega arith)
 
 add-k : tie.Need-add-k Inv-loop μ-loop
 add-k c = omega arith
@@ -53,16 +55,20 @@ loop-less c = omega arith
 
 loop-again : tie.Need-loop-again Inv-loop μ-loop
 loop-again c =
-    let i = c .before .before .before .before .before in
-    let a = i .before in
-    let w = words-more _ (a .loop .bytes) _ (a .loop .k) (a .loop .inv .1) (i .loop-test .taken) (c .before .before .write-word .ensures) (a .loop .inv .2) in
-    (omega arith, w .0, w .1)
+    let at-write = c .before .before in
+    let at-test = at-write .before .before .before in
+    let l = at-test .before .loop in
+    let more = words-more _ (l .bytes) _ (l .k) (l .inv .1) (at-test .loop-test .taken) (at-write .write-word .ensures) (l .inv .2) in
+    (omega arith, more .0, more .1)
 
 same-length : tie.Need-same-length Inv-loop μ-loop
-same-length c = c .before .loop .inv .1 ∙ sym (c .before .before .before .before .pre)
+same-length c =
+    let at-loop = c .before in
+    let at-call = at-loop .before .before .before in
+    at-loop .loop .inv .1 ∙ sym (at-call .pre)
 
 returns : tie.Need-returns Inv-loop μ-loop
-returns c = words-all _ _ _ (c .before .loop .inv .1) (omega arith) (c .before .loop .inv .2)
+returns c = let l = c .before .loop in words-all _ _ _ (l .inv .1) (omega arith) (l .inv .2)
 
 pub write-words-spec : {M : Type 1} → statement M
 write-words-spec =
