@@ -6,12 +6,10 @@ ghost use Rattle.check_entry.specs.CheckCalled.{told, CheckCalled};
 use answer::Answer;
 use answer::Verdict;
 use checker::check;
+use words::NUMBERS_LENGTH;
+use words::WRONG_LENGTH;
 use words::code_of;
 use words::write_numbers;
-
-const NUMBERS_LENGTH: usize = 32;
-
-const WRONG_LENGTH: u64 = 1;
 
 // Writes the check's numbers; the ring's length comes from the verdict.
 fn write_check(bytes: &mut [u8], count: u8, answer: Answer)

@@ -7,17 +7,13 @@ ghost use Rattle.run_entry.specs.RunCalled.{RunCalled};
 use answer::RunAnswer;
 use answer::RunVerdict;
 use machine::run;
+use words::NUMBERS_LENGTH;
+use words::SUMS;
+use words::SUMS_LENGTH;
+use words::WRONG_LENGTH;
 use words::code_of;
 use words::write_numbers;
 use words::write_sums;
-
-const NUMBERS_LENGTH: usize = 32;
-
-const SUMS: usize = 64;
-
-const SUMS_LENGTH: usize = 256;
-
-const WRONG_LENGTH: u64 = 1;
 
 // Writes a run's numbers in the order of the rules.
 fn write_run(bytes: &mut [u8], answer: RunAnswer)

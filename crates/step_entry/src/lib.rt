@@ -2,13 +2,11 @@
 ghost use Rattle.step_entry.specs.StepCalled.{StepCalled};
 use answer::StepAnswer;
 use machine::step;
+use words::NUMBERS_LENGTH;
+use words::WRONG_LENGTH;
 use words::code_of;
 use words::complement;
 use words::write_numbers;
-
-const NUMBERS_LENGTH: usize = 32;
-
-const WRONG_LENGTH: u64 = 1;
 
 // Activates one pair; on 0 the speaker's choice is stored and the numbers hold the movement, otherwise no byte changes.
 pub fn step_for_c(

@@ -8,13 +8,16 @@ ghost use Rattle.words.specs.Words.{overwritten};
 
 const WORD_LENGTH: usize = 4;
 
-const NUMBERS_LENGTH: usize = 32;
-
-const SUMS: usize = 64;
-
-const SUMS_LENGTH: usize = 256;
-
 const LARGEST_WORD: u32 = 4294967295;
+
+pub const NUMBERS_LENGTH: usize = 32;
+
+pub const SUMS: usize = 64;
+
+pub const SUMS_LENGTH: usize = 256;
+
+// What an entry returns where a buffer has another length: refusal 1, place 0.
+pub const WRONG_LENGTH: u64 = 1;
 
 // A refusal as one number: the place stands above the number's byte.
 pub fn code_of(number: u8, place: u32) -> u64
@@ -69,7 +72,7 @@ pub fn complement(n: i32) -> u32
 }
 
 // Writes the sums; a buffer of another length stays as it was.
-pub fn write_sums(bytes: &mut [u8], sums: &[i32; 64])
+pub fn write_sums(bytes: &mut [u8], sums: &[i32; SUMS])
     ensures { λ r. ⌜ now (bytes .exit) ≡ overwritten (sumBytes (now (sums .entry))) (now (bytes .entry)) ⌝ }
 {
     if bytes.len() != SUMS_LENGTH {
