@@ -23,7 +23,9 @@ use Rattle.laws.specs.AnswerLaws.{lent-right, check-admitted}
 use Rattle.laws.specs.RefusalLaws.{rounds-few}
 use Rattle.laws.specs.ShapeLaws.{longest-most}
 use Rattle.laws.specs.RoundLaws.{contains-fewer}
-use Rattle.reefsplice.specs.Called.{CheckCalled, StepCalled, RunCalled}
+use Rattle.check_entry.specs.CheckCalled.{CheckCalled}
+use Rattle.step_entry.specs.StepCalled.{StepCalled}
+use Rattle.run_entry.specs.RunCalled.{RunCalled}
 use Rattle.theorems.specs.Claims.{Call, ofRun, ofStep, callRefusal, heardAfterCall, roundsOfCall, AllAccepted, heardAfter, pairsOfCall, pairsOf, roundsAnswered, listeningPairs, Valid, rowOf, Given, Stays}
 use Rattle.theorems.specs.LastingLaws.{after}
 use Rattle.theorems.specs.CallLaws.{all-after}
@@ -94,12 +96,12 @@ module _ (t : List ℕ) where
       → AsCall heard (ran s sums numbers heardNow sumsNow numbersNow)
   unfolding callOf callRefusal heardAfterCall heardNowOf roundsOfCall roundsIn heardRunForC heardAfterRun runNumbersForC numberBytes unless
   as-run heard s sums numbers heardNow sumsNow numbersNow called =
-      let e = run-zero t heard s sums numbers (sym (called .0)) in
+      let e = run-zero t heard s sums numbers (sym (called .code)) in
       let f = run-none t heard s sums numbers e in
-      let told : numbersNow ≡ wordBytes 8 (runNumbers t heard s (replicate 64 (pos 0))) = called .1 .1 .1 ∙ rw e in
+      let told : numbersNow ≡ wordBytes 8 (runNumbers t heard s (replicate 64 (pos 0))) = called .numbers ∙ rw e in
       record {
         accepted = f;
-        after = rw f (sym (called .1 .0 ∙ rw e));
+        after = rw f (sym (called .heard ∙ rw e));
         rounds = ap (λ (l : List ℕ). numberAt l 4) told
             ∙ number-told 8 (runNumbers t heard s (replicate 64 (pos 0))) 4 (omega arith) (omega (arith, rounds-few t heard s (replicate 64 (pos 0)) f));
       }
@@ -109,9 +111,9 @@ module _ (t : List ℕ) where
       → AsCall heard (stepped p numbers heardNow numbersNow)
   unfolding callOf callRefusal heardAfterCall heardNowOf roundsOfCall roundsIn heardStepForC heardAfterStep unless
   as-step heard p numbers heardNow numbersNow called =
-      let e = step-zero t heard p numbers (sym (called .0)) in
+      let e = step-zero t heard p numbers (sym (called .code)) in
       let f = step-none t heard p numbers e in
-      record { accepted = f; after = rw f (sym (called .1 .0 ∙ rw e)); rounds = refl }
+      record { accepted = f; after = rw f (sym (called .heard ∙ rw e)); rounds = refl }
 
   -- What the contracts say of all of them.
   record AsCalls (heard : List ℕ) (rs : List Seen) : Type 0 where
@@ -162,13 +164,13 @@ all-seen t heard [] a = a
 all-seen t heard (ofRun s sums ∷ cs) a =
     let f = run-same t heard s (replicate 256 0) (replicate 32 0) refl refl ∙ run-any-sums t heard s sums (replicate 64 (pos 0)) refl (a .0) in
     let same : heardRunForC t heard s (replicate 256 0) (replicate 32 0) ≡ heardAfterRun t heard s sums = rw (f, a .0) in (
-      (sym (code-none _ f), (refl, (refl, refl))),
+      record { code = sym (code-none _ f); heard = refl; sums = refl; numbers = refl },
       all-seen t _ cs (subst (λ (h : List ℕ). AllAccepted t h cs) (sym same) (a .1)),
     )
 all-seen t heard (ofStep p ∷ cs) a =
     let f = step-same t heard p (replicate 32 0) refl ∙ a .0 in
     let same : heardStepForC t heard p (replicate 32 0) ≡ heardAfterStep t heard p = rw (f, a .0) in (
-      (sym (code-none _ f), (refl, refl)),
+      record { code = sym (code-none _ f); heard = refl; numbers = refl },
       all-seen t _ cs (subst (λ (h : List ℕ). AllAccepted t h cs) (sym same) (a .1)),
     )
 
@@ -205,12 +207,16 @@ pub collectable : (t heard : List ℕ) (calls : List Call)
     → Collected t rows ring numbers (rowsForC t rows ring numbers) (ringForC t rows ring numbers) (checkNumbersForC t rows ring numbers) heard (seenOf t heard calls)
 collectable t heard calls accepted valid each rows ring numbers d e f =
     let none-left = check-same t rows ring numbers f ∙ lent-right t rows ring d e ∙ accepted in
-    record { check = (sym (code-none _ none-left), (refl, (refl, refl))); state = valid; calls = all-seen t heard calls each }
+    record {
+      check = record { code = sym (code-none _ none-left); rows = refl; ring = refl; numbers = refl };
+      state = valid;
+      calls = all-seen t heard calls each;
+    }
 
 module _ (t rows ring numbers rowsNow ringNow numbersNow heard : List ℕ) (rs : List Seen)
     (held : Collected t rows ring numbers rowsNow ringNow numbersNow heard rs) where
   none-left : checkRefusalForC t rows ring numbers ≡ none
-  none-left = check-zero t rows ring numbers (sym (held .check .0))
+  none-left = check-zero t rows ring numbers (sym (held .check .code))
 
   fine : checkRefusal t rows ring ≡ none
   fine = check-none t rows ring numbers none-left
@@ -221,13 +227,13 @@ module _ (t rows ring numbers rowsNow ringNow numbersNow heard : List ℕ) (rs :
   -- the rows are the report's
   pub same-rows : rowsNow ≡ report t .rows
   unfolding rowsForC unless
-  same-rows = held .check .1 .0 ∙ rw none-left
+  same-rows = held .check .rows ∙ rw none-left
 
   -- the number at 4 of the check's numbers is L
   pub same-hops : numberAt numbersNow 4 ≡ report t .hops
   unfolding checkNumbersForC checkNumbers numberBytes unless report
   same-hops =
-      let told : numbersNow ≡ wordBytes 8 (checkNumbers t rows ring) = held .check .1 .1 .1 ∙ rw none-left in
+      let told : numbersNow ≡ wordBytes 8 (checkNumbers t rows ring) = held .check .numbers ∙ rw none-left in
       let hops : getD (checkNumbers t rows ring) 4 0 ≡ report t .hops = rw fine in
       ap (λ (l : List ℕ). numberAt l 4) told
       ∙ number-told 8 (checkNumbers t rows ring) 4 (omega arith) (omega (arith, hops, longest-most t accepted)) ∙ hops

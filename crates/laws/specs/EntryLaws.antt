@@ -117,15 +117,17 @@ unfolding twosComplement
 below-told n h = omega arith
 
 -- the word of v in the run's sums is its sum
+
+pub sum-word : (sums : List ℤ) (v : ℕ) → getD (map twosComplement sums) v 0 ≡ twosComplement (getD sums v (pos 0))
+sum-word sums v = ap (getD (map twosComplement sums) v) (sym (complement-above 0)) ∙ List·getD-map twosComplement sums v (pos 0)
+
 pub sum-told : (sums : List ℤ) (v : ℕ)
     → v < 64
     → twosComplement (getD sums v (pos 0)) < 4294967296
     → numberAt (sumBytes sums) v ≡ twosComplement (getD sums v (pos 0))
 unfolding sumBytes
 sum-told sums v h small =
-    let same : getD (map twosComplement sums) v 0 ≡ twosComplement (getD sums v (pos 0))
-    = ap (getD (map twosComplement sums) v) (sym (complement-above 0)) ∙ List·getD-map twosComplement sums v (pos 0) in
-    number-told 64 (map twosComplement sums) v h (rw same small) ∙ same
+    number-told 64 (map twosComplement sums) v h (rw (sum-word sums v) small) ∙ sum-word sums v
 
 -- what a caller reads off the code: number and place, and 0 exactly where nothing is refused
 

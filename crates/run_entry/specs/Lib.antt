@@ -1,0 +1,4 @@
+-- What the contract says.
+pub mod RunCalled
+-- The laws that its proof uses.
+pub mod RunCallLaws
