@@ -14,7 +14,7 @@ use Rattle.laws.specs.TableLaws.{at}
 use Rattle.answer.specs.declared.RunAnswer.{RunAnswer}
 use Rattle.answer.specs.declared.RunVerdict.the-variants.{Accepted, Refused}
 use Rattle.answer.specs.Moves.{runRefusalIn, runNumbersIn}
-use Rattle.machine.specs.Ran.{Ran}
+use Rattle.runner.specs.Ran.{Ran}
 use Rattle.words.specs.Words.{overwritten}
 use Rattle.words.specs.WordLaws.{over-same, numbers-size, sums-size}
 use Rattle.words.specs.CodeLaws.{accepted-code, length-code, kept, renewed, as-left}
@@ -38,28 +38,14 @@ module _ (t heard s sums lent : List ℕ) where
 
   module _ (wide : length sums ≡ 256) (long : length lent ≡ 32) (a : RunAnswer) (after : List ℕ) (moved : List ℤ)
       (ran : Ran t heard s clear a after moved) where
-    -- what the library's contract says
-
-    refusal-told : runRefusalIn (a .verdict) ≡ runRefusal t heard s clear
-    refusal-told = ran .0
-
-    numbers-told : runNumbersIn a ≡ runNumbers t heard s clear
-    numbers-told = ran .1 .0
-
-    heard-told : after ≡ heardAfterRun t heard s clear
-    heard-told = ran .1 .1 .0
-
-    sums-told : moved ≡ sumsAfterRun t heard s clear
-    sums-told = ran .1 .1 .1
-
-    -- so the refusal and the heard state are the entry's
+    -- the refusal and the heard state are the library's
 
     abbrev same : runRefusalForC t heard s sums lent ≡ runRefusal t heard s clear
     same = run-same t heard s sums lent wide long
 
     heard-is : after ≡ heardRunForC t heard s sums lent
     unfolding heardRunForC heardAfterRun
-    heard-is = heard-told ∙ as-left _ (rules.run (pathsOf t) heard (rules.pairsIn s) .heard) heard _ same
+    heard-is = ran .heard ∙ as-left _ (rules.run (pathsOf t) heard (rules.pairsIn s) .heard) heard _ same
 
     pub run-accepted : a .verdict ≡ Accepted
         → (summed now : List ℕ)
@@ -68,21 +54,21 @@ module _ (t heard s sums lent : List ℕ) where
         → RunCalled t heard s sums lent 0 after summed now
     unfolding sumsForC runNumbersForC sumsAfterRun unless runRefusalIn
     run-accepted e summed now sums-written written =
-        let works = sym refusal-told ∙ ap runRefusalIn e in
+        let works = sym (ran .refusal) ∙ ap runRefusalIn e in
         let none-left = same ∙ works in
         let all-sums = over-same 256 (sumBytes moved) sums (sums-size moved) wide in
         let whole = over-same 32 (numberBytes (runNumbersIn a)) lent (numbers-size (runNumbersIn a)) long in
         record {
           code = accepted-code _ none-left;
           heard = heard-is;
-          sums = sums-written ∙ sym all-sums ∙ ap sumBytes (sums-told ∙ rw works) ∙ renewed _ _ sums none-left;
-          numbers = written ∙ sym whole ∙ ap numberBytes numbers-told ∙ renewed _ _ lent none-left;
+          sums = sums-written ∙ sym all-sums ∙ ap sumBytes (ran .sums ∙ rw works) ∙ renewed _ _ sums none-left;
+          numbers = written ∙ sym whole ∙ ap numberBytes (ran .numbers) ∙ renewed _ _ lent none-left;
         }
 
     module _ (n k : ℕ) (e : a .verdict ≡ Refused n k) where
       halts : runRefusal t heard s clear ≡ at n k
       unfolding runRefusalIn
-      halts = sym refusal-told ∙ ap runRefusalIn e
+      halts = sym (ran .refusal) ∙ ap runRefusalIn e
 
       pub run-refused : (code : ℕ) → code ≡ codeOf (at n k) → RunCalled t heard s sums lent code after sums lent
       unfolding sumsForC runNumbersForC

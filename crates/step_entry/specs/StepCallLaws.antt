@@ -18,8 +18,8 @@ use Rattle.laws.specs.TableLaws.{at}
 use Rattle.answer.specs.declared.StepAnswer.{StepAnswer}
 use Rattle.answer.specs.declared.StepAnswer.the-variants.{Moved, Refused}
 use Rattle.answer.specs.Moves.{stepRefusalIn, movementIn}
-use Rattle.machine.specs.MoveLaws.{small-told}
-use Rattle.machine.specs.Stepped.{Stepped}
+use Rattle.tally.specs.CountingLaws.{small-told}
+use Rattle.stepper.specs.Stepped.{Stepped}
 use Rattle.words.specs.Words.{overwritten}
 use Rattle.words.specs.WordLaws.{over-same, numbers-size, zeros-behind}
 use Rattle.words.specs.CodeLaws.{accepted-code, length-code, kept, renewed, as-left}
@@ -33,34 +33,23 @@ module _ (t heard : List ℕ) (p : Pair) (lent : List ℕ) where
       record { code = length-code _ e; heard = kept _ _ heard 1 0 e; numbers = kept _ _ lent 1 0 e }
 
   module _ (long : length lent ≡ 32) (a : StepAnswer) (after : List ℕ) (stepped : Stepped t heard p a after) where
-    -- what the library's contract says
-
-    refusal-told : stepRefusalIn a ≡ stepRefusal t heard p
-    refusal-told = stepped .0
-
-    movement-told : movementIn a ≡ stepMovement t heard p
-    movement-told = stepped .1 .0
-
-    heard-told : after ≡ heardAfterStep t heard p
-    heard-told = stepped .1 .1
-
-    -- so the refusal and the heard state are the entry's
+    -- the refusal and the heard state are the library's
 
     abbrev same : stepRefusalForC t heard p lent ≡ stepRefusal t heard p
     same = step-same t heard p lent long
 
     heard-is : after ≡ heardStepForC t heard p lent
     unfolding heardStepForC heardAfterStep
-    heard-is = heard-told ∙ as-left _ (rules.step (pathsOf t) heard p) heard _ same
+    heard-is = stepped .heard ∙ as-left _ (rules.step (pathsOf t) heard p) heard _ same
 
     module _ (m : ℤ) (e : a ≡ Moved m) where
       moves : stepRefusal t heard p ≡ none
       unfolding stepRefusalIn
-      moves = sym refusal-told ∙ ap stepRefusalIn e
+      moves = sym (stepped .refusal) ∙ ap stepRefusalIn e
 
       moved-is : m ≡ movement (pathsOf t) heard p
       unfolding movementIn stepMovement unless
-      moved-is = sym (ap movementIn e) ∙ movement-told ∙ rw moves
+      moved-is = sym (ap movementIn e) ∙ stepped .movement ∙ rw moves
 
       -- the movement's word, and seven times 0
       pub step-accepted : (now : List ℕ) (n : ℕ)
@@ -82,7 +71,7 @@ module _ (t heard : List ℕ) (p : Pair) (lent : List ℕ) where
     module _ (n k : ℕ) (e : a ≡ Refused n k) where
       stops : stepRefusal t heard p ≡ at n k
       unfolding stepRefusalIn
-      stops = sym refusal-told ∙ ap stepRefusalIn e
+      stops = sym (stepped .refusal) ∙ ap stepRefusalIn e
 
       pub step-refused : (code : ℕ) → code ≡ codeOf (at n k) → StepCalled t heard p lent code after lent
       unfolding stepNumbersForC
