@@ -43,7 +43,7 @@ more-both (pos (suc n)) a b = omega arith
 more-both (negsuc n) a b = omega arith
 
 -- a test adds one at most
-more-most : (b : Bool) (n : ℕ) → more b n ≤ suc n
+pub more-most : (b : Bool) (n : ℕ) → more b n ≤ suc n
 unfolding more
 more-most true n = omega arith
 more-most false n = omega arith

@@ -1,6 +1,6 @@
 -- Laws of tests: what a test says that holds or fails, and a test, two numbers or an option taken by cases.
 use mathlib.Core.Path.{_≡_, refl, sym, _∙_}
-use mathlib.Core.Logic.{_≢_, _⊎_, inl, inr, ⊎-map}
+use mathlib.Core.Logic.{_≢_, _⊎_, inl, inr}
 use mathlib.Core.Bool.{Bool, true, false, _&&_, _||_}
 use mathlib.Core.Option.{Option, none, some}
 use Prim.Native.Nat.{ℕ, _<_, _≤_}
@@ -91,10 +91,6 @@ module _ (low high n : ℕ) where
   pub above-out : high < n → outside low high n ≡ true
   unfolding outside
   above-out p = or-right (ltb n low) (ltb high n) (lt-ltb high n p)
-
-  pub outside-cases : outside low high n ≡ true → (n < low) ⊎ (high < n)
-  unfolding outside
-  outside-cases e = ⊎-map (ltb-true n low) (ltb-true high n) (or-cases (ltb n low) (ltb high n) e)
 
 -- an option by cases, and that its two cases differ
 

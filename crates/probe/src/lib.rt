@@ -1,12 +1,10 @@
 // What the entries for C do not show, for tests outside Rattle: the reader, the facts and the texts, thin over the proved crates.
 ghost use mathlib.Core.Path.{_≡_};
 ghost use Rattle.rules.specs.Table.{longest, present, pathsOf, listensAt};
-ghost use Prim.Native.Nat.{min};
-ghost use lib.ListN.{length};
 ghost use Rattle.rules.specs.Refusals.{refusal};
 ghost use Rattle.rules.specs.Text.{checkText};
 ghost use Rattle.rules.specs.RunText.{ranText};
-ghost use Rattle.text_writing.specs.Lay.{overlaid};
+ghost use Rattle.text_writing.specs.Lay.{Laid};
 ghost use Rattle.rules.specs.Entries.{codeOf};
 ghost use Rattle.probe.specs.Numbers.{markOf, slotAt};
 use check_text::check_text;
@@ -88,8 +86,7 @@ pub extern "C" fn probe_slot(table: &[u8], v: u64, k: u64) -> u64
 // The check program's text, laid over the front of the lent text as far as it fits, and how many bytes that is.
 #[no_mangle]
 pub extern "C" fn probe_text(table: &[u8], text: &mut [u8]) -> u64
-    ensures text { λ r. ⌜ now (text .exit) ≡ overlaid (checkText (now (table .entry))) (now (text .entry)) ⌝ }
-    ensures count { λ r. ⌜ r ≡ min (length (checkText (now (table .entry)))) (length (now (text .entry))) ⌝ }
+    ensures { λ r. ⌜ Laid 0 (checkText (now (table .entry))) (now (text .entry)) (now (text .exit)) r ⌝ }
 {
     check_text(table, text) as u64
 }
@@ -97,8 +94,7 @@ pub extern "C" fn probe_text(table: &[u8], text: &mut [u8]) -> u64
 // The run program's text, laid over the front of the lent text as far as it fits, and how many bytes that is.
 #[no_mangle]
 pub extern "C" fn probe_run_text(table: &[u8], schedule: &[u8], text: &mut [u8]) -> u64
-    ensures text { λ r. ⌜ now (text .exit) ≡ overlaid (ranText (now (table .entry)) (now (schedule .entry))) (now (text .entry)) ⌝ }
-    ensures count { λ r. ⌜ r ≡ min (length (ranText (now (table .entry)) (now (schedule .entry)))) (length (now (text .entry))) ⌝ }
+    ensures { λ r. ⌜ Laid 0 (ranText (now (table .entry)) (now (schedule .entry))) (now (text .entry)) (now (text .exit)) r ⌝ }
 {
     run_text(table, schedule, text) as u64
 }

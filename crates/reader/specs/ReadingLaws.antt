@@ -1,16 +1,11 @@
--- One result: any two answers that the contract allows for one table are equal, and an answer tells the refusal.
-use mathlib.Core.Path.{_≡_, refl, sym, _∙_}
-use mathlib.Core.List.{List}
+-- What the reader's answer tells: the refusal.
+use mathlib.Core.Path.{_≡_, refl, sym}
 use mathlib.Core.Option.{Option, none, some}
 use Prim.Native.Nat.{ℕ}
 use native.Mathlib.Omega.{arith}
-use Rattle.rules.specs.Refusals.{Refusal, refusal}
-use Rattle.reader.specs.declared.Reading.{Reading}
+use Rattle.rules.specs.Refusals.{Refusal}
 use Rattle.reader.specs.declared.Reading.the-variants.{Accepted, Refused}
 use Rattle.reader.specs.Reading.{readingOf}
-
-pub one-reading : (t : List ℕ) (a b : Reading) → a ≡ readingOf (refusal t) → b ≡ readingOf (refusal t) → a ≡ b
-one-reading t a b e f = e ∙ sym f
 
 -- different refusals get different answers
 pub reading-tells : (a b : Option Refusal) → readingOf a ≡ readingOf b → a ≡ b

@@ -6,6 +6,7 @@ use native.Mathlib.Omega.{arith}
 use native.Mathlib.Numerals.{add-one}
 use lib.ListN.{length, getD, take, drop, set, length-append, length-take, length-drop, length-set, take-append-drop}
 use lib.Seq.{take-length, take-nil, drop-nil, paste, paste-zero, paste-suc, drop-drop}
+use Rattle.lists.specs.Results.{one-result}
 use Rattle.text_writing.specs.Lay.{overlaid, Laid}
 
 -- the piece byte by byte
@@ -153,4 +154,4 @@ pub laid-one : {at : ℕ} {piece before after after' : List ℕ} {n n' : ℕ}
     → Laid at piece before after n
     → Laid at piece before after' n'
     → (after ≡ after') × (n ≡ n')
-laid-one l m = (l .stands ∙ sym (m .stands), l .reaches ∙ sym (m .reaches))
+laid-one l m = (one-result _ _ _ (l .stands) (m .stands), one-result _ _ _ (l .reaches) (m .reaches))

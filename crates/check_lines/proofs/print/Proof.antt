@@ -3,7 +3,7 @@
 use borrow.Author.Needs.{needs}
 use Rattle.rules.specs.Text.{codes}
 use Rattle.text_writing.specs.LayLaws.{laid-then, laid-as, laid-length}
-use Rattle.check_lines.specs.VerdictLaws.{complete-text, stuck-text, refused-text}
+use Rattle.check_lines.specs.VerdictTextLaws.{complete-text, stuck-text, refused-text}
 use Rattle.check_lines.proofs.print.Statement.{statement}
 use Rattle.check_lines.proofs.print.Tie as tie
 

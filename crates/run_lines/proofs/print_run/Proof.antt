@@ -2,7 +2,7 @@
 -- Assumes nothing.
 use borrow.Author.Needs.{needs}
 use Rattle.text_writing.specs.LayLaws.{laid-then, laid-as, laid-length}
-use Rattle.run_lines.specs.VerdictLaws.{accepted-text, refused-text}
+use Rattle.run_lines.specs.RunVerdictTextLaws.{accepted-text, refused-text}
 use Rattle.run_lines.proofs.print_run.Statement.{statement}
 use Rattle.run_lines.proofs.print_run.Tie as tie
 

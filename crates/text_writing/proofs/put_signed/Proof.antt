@@ -3,7 +3,7 @@
 use borrow.Author.Needs.{needs}
 use Rattle.rules.specs.Text.{codes}
 use Rattle.text_writing.specs.LayLaws.{laid-then, laid-as, laid-length}
-use Rattle.text_writing.specs.SignedLaws.{signed-plain, signed-below}
+use Rattle.text_writing.specs.SignedLetterLaws.{signed-plain, signed-below}
 use Rattle.text_writing.proofs.put_signed.Statement.{statement}
 use Rattle.text_writing.proofs.put_signed.Tie as tie
 

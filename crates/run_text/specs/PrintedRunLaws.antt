@@ -1,4 +1,4 @@
--- Laws of the run as text: what is laid is the text of the run from zeros, one result, and 8,192 bytes hold it.
+-- Laws of the run as text: what its answer prints is the text of the run, and 8,192 bytes hold it.
 use mathlib.Core.Path.{_≡_, sym, ap, _∙_}
 use mathlib.Core.Logic.{_≢_}
 use mathlib.Core.List.{List, [], _∷_}
@@ -26,8 +26,9 @@ use Rattle.laws.specs.RunTextLaws.{vertices-ext, ran-text-fits}
 use Rattle.laws.specs.AnswerLaws.{run-admitted}
 use Rattle.answer.specs.declared.RunAnswer.{RunAnswer}
 use Rattle.answer.specs.Moves.{runRefusalIn, runNumbersIn}
-use Rattle.text_writing.specs.Lay.{Laid, overlaid}
-use Rattle.text_writing.specs.LayLaws.{laid-as, laid-fits}
+use Rattle.text_writing.specs.Lay.{Laid}
+use Rattle.text_writing.specs.LayLaws.{laid-fits}
+use Rattle.machine.specs.Ran.{Ran}
 use Rattle.run_lines.specs.Shown.{rankedRecord, shownLine, shownLines}
 
 -- an accepted table
@@ -68,67 +69,45 @@ lines-ran : (t : List ℕ)
     → shownLines t (choiceBytes (pathsOf t) (y .heard)) (y .sums) 63 ≡ vertexLines (present t) (ranLine t y) 63
 lines-ran t e y = vertices-ext (present t) _ _ 63 (λ k h. shown-ran t e (k + 1) (omega arith) y (λ z. omega arith))
 
--- what the contracts of the run and of the choices say, where the choices are those of the state that the run leaves
-pub record Ran (t heard s : List ℕ) (sums : List ℤ) (a : RunAnswer) (heardAfter : List ℕ) (sumsAfter : List ℤ) (chosen : List ℕ) : Type 0 where
-  pub refused : runRefusalIn (a .verdict) ≡ runRefusal t heard s sums
-  pub numbers : runNumbersIn a ≡ runNumbers t heard s sums
-  pub state : heardAfter ≡ heardAfterRun t heard s sums
-  pub added : sumsAfter ≡ sumsAfterRun t heard s sums
-  pub choices : chosen ≡ choicesIn t heardAfter
+-- a refused run prints neither numbers nor lines
+refused-alone : (o : Option Refusal) (r : Refusal) (ns ns′ lines lines′ : List ℕ)
+    → o ≡ some r
+    → runTextOf o ns lines ≡ runTextOf o ns′ lines′
+unfolding runTextOf
+refused-alone o r ns ns′ lines lines′ e = rw e
 
-module _ (t heard s : List ℕ) (sums : List ℤ) where
-  abbrev y : Tally
-  y = run (pathsOf t) heard (pairsIn s)
+-- an accepted run leaves what it has come to
+accepted-new : {A : Type 0} (o : Option Refusal) (new old : A) → o ≡ none → unless o new old ≡ new
+unfolding unless
+accepted-new o new old e = rw e
 
-  -- a refused run prints neither numbers nor lines
-  refused-alone : (o : Option Refusal) (r : Refusal) (ns ns′ lines lines′ : List ℕ) → o ≡ some r → runTextOf o ns lines ≡ runTextOf o ns′ lines′
-  unfolding runTextOf
-  refused-alone o r ns ns′ lines lines′ e = rw e
+-- what the answer prints is the text of the run, where the choices are those of the state that it leaves
+pub printed-run : (t heard s heardAfter chosen : List ℕ) (sums sumsAfter : List ℤ) (a : RunAnswer)
+    → Ran t heard s sums a heardAfter sumsAfter
+    → chosen ≡ choicesIn t heardAfter
+    → runTextOf (runRefusalIn (a .verdict)) (runNumbersIn a) (shownLines t chosen sumsAfter 63)
+    ≡ runText t heard s sums
+unfolding runText runNumbers heardAfterRun sumsAfterRun choicesIn
+printed-run t heard s heardAfter chosen sums sumsAfter a (refused, (numbers, (state, added))) choices =
+    by-option (runRefusal t heard s sums)
+    (λ e. let ok = run-admitted t heard s sums e .accepted in
+    let chose = choices ∙ accepted-new (refusal t) _ _ ok ∙ ap (choiceBytes (pathsOf t)) (state ∙ accepted-new _ _ _ e) in
+    rw (refused, numbers ∙ accepted-new _ _ _ e, added ∙ accepted-new _ _ _ e, chose)
+    (ap (runTextOf (runRefusal t heard s sums) _) (lines-ran t ok (run (pathsOf t) heard (pairsIn s)))))
+    (λ r e. rw refused (refused-alone _ r _ _ _ _ e))
 
-  -- an accepted run leaves what it has come to
-  accepted-new : {A : Type 0} (o : Option Refusal) (new old : A) → o ≡ none → unless o new old ≡ new
-  unfolding unless
-  accepted-new o new old e = rw e
-
-  -- what the answer prints is the text of the run
-  pub text-is : (a : RunAnswer) (heardAfter : List ℕ) (sumsAfter : List ℤ) (chosen : List ℕ)
-      → Ran t heard s sums a heardAfter sumsAfter chosen
-      → runTextOf (runRefusalIn (a .verdict)) (runNumbersIn a) (shownLines t chosen sumsAfter 63)
-      ≡ runText t heard s sums
-  unfolding runText runNumbers heardAfterRun sumsAfterRun choicesIn
-  text-is a heardAfter sumsAfter chosen ran =
-      by-option (runRefusal t heard s sums)
-      (λ e. let ok = run-admitted t heard s sums e .accepted in
-      let chose = ran .choices ∙ accepted-new (refusal t) _ _ ok ∙ ap (choiceBytes (pathsOf t)) (ran .state ∙ accepted-new _ _ _ e) in
-      rw (ran .refused, ran .numbers ∙ accepted-new _ _ _ e, ran .added ∙ accepted-new _ _ _ e, chose)
-      (ap (runTextOf (runRefusal t heard s sums) _) (lines-ran t ok y)))
-      (λ r e. rw (ran .refused) (refused-alone _ r _ _ _ _ e))
-
--- what the contract of `run_text` says
-abbrev pub Printed : List ℕ → List ℕ → List ℕ → List ℕ → ℕ → Type 0
-Printed t s before after n = (after ≡ overlaid (ranText t s) before) × (n ≡ min (length (ranText t s)) (length before))
-
--- what the answer of a run from zeros prints is the text
-pub printed-run : (t s before after : List ℕ) (n : ℕ) (a : RunAnswer) (heardAfter : List ℕ) (sumsAfter : List ℤ) (chosen : List ℕ)
-    → Ran t (replicate 4096 0) s (replicate 64 (pos 0)) a heardAfter sumsAfter chosen
-    → Laid 0 (runTextOf (runRefusalIn (a .verdict)) (runNumbersIn a) (shownLines t chosen sumsAfter 63)) before after n
-    → Printed t s before after n
+-- so what it prints from zeros is the text of the two inputs
+pub printed-from-zeros : (t s heardAfter chosen : List ℕ) (sumsAfter : List ℤ) (a : RunAnswer)
+    → Ran t (replicate 4096 0) s (replicate 64 (pos 0)) a heardAfter sumsAfter
+    → chosen ≡ choicesIn t heardAfter
+    → runTextOf (runRefusalIn (a .verdict)) (runNumbersIn a) (shownLines t chosen sumsAfter 63)
+    ≡ ranText t s
 unfolding ranText
-printed-run t s before after n a heardAfter sumsAfter chosen ran l =
-    let m = laid-as l (text-is t (replicate 4096 0) s (replicate 64 (pos 0)) a heardAfter sumsAfter chosen ran) in
-    (m .stands, omega (arith, m .reaches))
-
--- any two results and texts that it allows are equal
-pub one-run-text : (t s before after after′ : List ℕ) (n m : ℕ)
-    → Printed t s before after n
-    → Printed t s before after′ m
-    → (after ≡ after′) × (n ≡ m)
-one-run-text t s before after after′ n m p q = (p .0 ∙ sym (q .0), p .1 ∙ sym (q .1))
+printed-from-zeros t s heardAfter chosen sumsAfter a ran choices = printed-run t _ s heardAfter chosen _ sumsAfter a ran choices
 
 -- in 8,192 bytes the whole text stands in front
 pub whole-run-text : (t s before after : List ℕ) (n : ℕ)
     → 8192 ≤ length before
-    → Printed t s before after n
+    → Laid 0 (ranText t s) before after n
     → (n ≡ length (ranText t s)) × (take n after ≡ ranText t s)
-whole-run-text t s before after n h p =
-    laid-fits (record { stands = p .0; reaches = omega (arith, p .1) }) (omega (arith, ran-text-fits t s))
+whole-run-text t s before after n h laid = laid-fits laid (omega (arith, ran-text-fits t s))
