@@ -4,18 +4,18 @@ use mathlib.Core.List.{List}
 use Prim.Native.Nat.{ℕ, _≤_}
 use native.Mathlib.Omega.{arith}
 use lib.ListN.{length, take, replicate, length-replicate}
-use Rattle.rules.specs.Text.{textOf, checkText}
+use Rattle.rules.specs.Text.{checkText}
 use Rattle.laws.specs.TextLaws.{check-text, check-text-fits}
 use Rattle.answer.specs.declared.Answer.{Answer}
-use Rattle.answer.specs.Meaning.{meaning, numbers}
 use Rattle.text_writing.specs.Lay.{Laid}
 use Rattle.text_writing.specs.LayLaws.{laid-fits}
+use Rattle.check_lines.specs.AnswerText.{answerText}
 use Rattle.checker.specs.Checked.{Checked}
 
 -- what the check's answer prints is the table's text
 pub printed-check : (t rows ring : List ℕ) (a : Answer)
     → Checked t (replicate 1024 0) (replicate 64 0) a rows ring
-    → textOf (meaning (a .verdict)) (numbers a) rows ring ≡ checkText t
+    → answerText a rows ring ≡ checkText t
 printed-check t rows ring a checked =
     rw (checked .0, checked .1 .0, checked .1 .1 .0, checked .1 .1 .1)
     (check-text t (replicate 1024 0) (replicate 64 0) (length-replicate {A = ℕ} 1024 0) (length-replicate {A = ℕ} 64 0))

@@ -16,6 +16,14 @@ use table_facts::longest_hops;
 use table_facts::present_in;
 use table_facts::slots_of;
 
+const VERTICES: u64 = 64;
+
+const PAIRS: u64 = 4096;
+
+const SLOTS: u64 = 16;
+
+const NO_RECORD: u64 = 65535;
+
 // 0 where the table is accepted, otherwise the refusal's number plus 256 times its place.
 #[no_mangle]
 pub extern "C" fn probe_read(table: &[u8]) -> u64
@@ -41,7 +49,7 @@ pub extern "C" fn probe_longest(table: &[u8]) -> u64
 pub extern "C" fn probe_present(table: &[u8], v: u64) -> u64
     ensures { λ r. ⌜ r ≡ markOf (present (now (table .entry))) 64 v ⌝ }
 {
-    if 64 <= v {
+    if VERTICES <= v {
         return 0;
     }
     let marks = present_in(table);
@@ -53,7 +61,7 @@ pub extern "C" fn probe_present(table: &[u8], v: u64) -> u64
 pub extern "C" fn probe_listens(table: &[u8], pair: u64) -> u64
     ensures { λ r. ⌜ r ≡ markOf (listensAt (pathsOf (now (table .entry)))) 4096 pair ⌝ }
 {
-    if 4096 <= pair {
+    if PAIRS <= pair {
         return 0;
     }
     let marks = listening_in(table);
@@ -72,11 +80,11 @@ fn wide(number: u16) -> u64
 pub extern "C" fn probe_slot(table: &[u8], v: u64, k: u64) -> u64
     ensures { λ r. ⌜ r ≡ slotAt (now (table .entry)) v k ⌝ }
 {
-    if 64 <= v {
-        return 65535;
+    if VERTICES <= v {
+        return NO_RECORD;
     }
-    if 16 <= k {
-        return 65535;
+    if SLOTS <= k {
+        return NO_RECORD;
     }
     let slots = slots_of(table);
     let row = slots[v as usize];

@@ -11,6 +11,7 @@ use machine::choices;
 use machine::run;
 use run_lines::print_run;
 use slices::at_most;
+use table_facts::VERTICES;
 use text_writing::put;
 use text_writing::put_spaced;
 
@@ -41,7 +42,7 @@ pub fn run_from(table: &[u8], heard: &mut [u8], pairs: &[u8], text: &mut [u8]) -
     ensures text { λ r. ⌜ Laid 0 (runText (now (table .entry)) (now (heard .entry)) (now (pairs .entry)) (replicate 64 (pos 0))) (now (text .entry)) (now (text .exit)) r ⌝ }
     ensures heard { λ r. ⌜ now (heard .exit) ≡ heardAfterRun (now (table .entry)) (now (heard .entry)) (now (pairs .entry)) (replicate 64 (pos 0)) ⌝ }
 {
-    let mut sums = [0; 64];
+    let mut sums = [0; VERTICES];
     let answer = run(table, heard, pairs, &mut sums);
     let chosen = choices(table, heard);
     print_run(answer, table, &chosen, &sums, text)

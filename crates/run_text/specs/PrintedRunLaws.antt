@@ -25,11 +25,10 @@ use Rattle.laws.specs.MachineLaws.{speaks-other, rank-tells}
 use Rattle.laws.specs.RunTextLaws.{vertices-ext, ran-text-fits}
 use Rattle.laws.specs.AnswerLaws.{run-admitted}
 use Rattle.answer.specs.declared.RunAnswer.{RunAnswer}
-use Rattle.answer.specs.Moves.{runRefusalIn, runNumbersIn}
 use Rattle.text_writing.specs.Lay.{Laid}
 use Rattle.text_writing.specs.LayLaws.{laid-fits}
 use Rattle.machine.specs.Ran.{Ran}
-use Rattle.run_lines.specs.Shown.{rankedRecord, shownLine, shownLines}
+use Rattle.run_lines.specs.Shown.{rankedRecord, shownLine, shownLines, runAnswerText}
 
 -- an accepted table
 
@@ -85,8 +84,7 @@ accepted-new o new old e = rw e
 pub printed-run : (t heard s heardAfter chosen : List ℕ) (sums sumsAfter : List ℤ) (a : RunAnswer)
     → Ran t heard s sums a heardAfter sumsAfter
     → chosen ≡ choicesIn t heardAfter
-    → runTextOf (runRefusalIn (a .verdict)) (runNumbersIn a) (shownLines t chosen sumsAfter 63)
-    ≡ runText t heard s sums
+    → runAnswerText a t chosen sumsAfter ≡ runText t heard s sums
 unfolding runText runNumbers heardAfterRun sumsAfterRun choicesIn
 printed-run t heard s heardAfter chosen sums sumsAfter a (refused, (numbers, (state, added))) choices =
     by-option (runRefusal t heard s sums)
@@ -100,8 +98,7 @@ printed-run t heard s heardAfter chosen sums sumsAfter a (refused, (numbers, (st
 pub printed-from-zeros : (t s heardAfter chosen : List ℕ) (sumsAfter : List ℤ) (a : RunAnswer)
     → Ran t (replicate 4096 0) s (replicate 64 (pos 0)) a heardAfter sumsAfter
     → chosen ≡ choicesIn t heardAfter
-    → runTextOf (runRefusalIn (a .verdict)) (runNumbersIn a) (shownLines t chosen sumsAfter 63)
-    ≡ ranText t s
+    → runAnswerText a t chosen sumsAfter ≡ ranText t s
 unfolding ranText
 printed-from-zeros t s heardAfter chosen sumsAfter a ran choices = printed-run t _ s heardAfter chosen _ sumsAfter a ran choices
 

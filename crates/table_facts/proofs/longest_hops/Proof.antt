@@ -42,7 +42,7 @@ returns : tie.Need-returns Inv-loop μ-loop
 unfolding longest
 returns c =
     let a = c .before in
-    let e : a .loop .i ≡ records (a .before .before .args .t .now) = omega arith in
+    let e : a .loop .i ≡ records (a .before .before .args .table .now) = omega arith in
     rw (← e) (a .loop .inv .2)
 
 pub longest-hops-spec : {M : Type 1} → statement M

@@ -96,7 +96,7 @@ loop-again-3 c =
 returns : tie.Need-returns Inv-loop μ-loop
 returns c =
     let a = c .before in
-    let e : a .loop .i ≡ min (records (a .before .before .before .args .t .now)) 1008 = omega arith in
+    let e : a .loop .i ≡ min (records (a .before .before .before .args .table .now)) 1008 = omega arith in
     rw (← e) (a .loop .inv .2 .filled)
 
 pub slots-of-spec : {M : Type 1} → statement M

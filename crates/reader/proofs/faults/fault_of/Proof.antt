@@ -12,14 +12,14 @@ use Rattle.reader.proofs.faults.fault_of.Tie as tie
 
 -- where a walk stands that has passed the first k rules at this place
 abbrev PastAt : tie.Start → ℕ → Type 0
-PastAt s k = Past (s .args .t .now) (s .args .i) k
+PastAt s k = Past (s .args .table .now) (s .args .i) k
 
 abbrev start1 : tie.Else1 → tie.Start
 start1 c = c .before .before .before .before
 
 -- what is read of the record alone is read of record i
 own : (c : tie.After-alone)
-    → recordAt (c .alone .result .now) 0 ≡ recordAt (c .before .before .args .t .now) (c .before .before .args .i)
+    → recordAt (c .alone .result .now) 0 ≡ recordAt (c .before .before .args .table .now) (c .before .before .args .i)
 own c = alone-record _ _ _ (c .alone .ensures)
 
 past1 : (c : tie.Else1) → PastAt (start1 c) 1
@@ -93,7 +93,7 @@ unfolding recordRules rule inRecord
 returns-2 c = past-stop _ _ 1 _ _ refl (past1 (c .before .before)) (c .before .vertex-bad .ensures ∙ ap vertexBad (own (c .before .before .before .before))) (c .if2 .taken)
 
 -- hops are at most 12 where rule 4 is kept
-hops12 : (c : tie.Else1) → hopsAt (start1 c .args .t .now) (start1 c .args .i) ≤ 12
+hops12 : (c : tie.Else1) → hopsAt (start1 c .args .table .now) (start1 c .args .i) ≤ 12
 hops12 c = hops-small _ _ _ (c .before .hops-bad .ensures ∙ ap hopsBad (own (c .before .before))) (c .if1 .left)
 
 filler-bad-requires : tie.Need-filler-bad-requires

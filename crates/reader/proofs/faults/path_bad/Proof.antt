@@ -21,12 +21,12 @@ abbrev μ-loop : tie.MeasureT-loop
 -- hops and rank are those of record i
 
 hops-read : (c : tie.After-hops-at Inv-loop μ-loop)
-    → c .hops-at .result ≡ hopsAt (c .before .before .before .args .t .now) (c .before .before .before .args .i)
+    → c .hops-at .result ≡ hopsAt (c .before .before .before .args .table .now) (c .before .before .before .args .i)
 hops-read c = c .hops-at .ensures ∙ ap hopsOf (alone-record _ _ _ (c .before .alone .ensures))
 
 rank-read : (c : tie.After-rank-at Inv-loop μ-loop)
     → c .rank-at .result
-    ≡ rankAt (c .before .before .before .before .before .args .t .now) (c .before .before .before .before .before .args .i)
+    ≡ rankAt (c .before .before .before .before .before .args .table .now) (c .before .before .before .before .before .args .i)
 rank-read c = c .rank-at .ensures ∙ ap rankOf (alone-record _ _ _ (c .before .before .before .alone .ensures))
 
 alone-requires : tie.Need-alone-requires Inv-loop μ-loop
@@ -74,7 +74,7 @@ same-parts-requires c κs = search needs
 
 -- what the comparison tells of the records i and j
 looked : (c : tie.After-same-parts Inv-loop μ-loop)
-    → c .same-parts .result ≡ samePath (c .before .before .before .before .before .before .before .before .before .args .t .now)
+    → c .same-parts .result ≡ samePath (c .before .before .before .before .before .before .before .before .before .args .table .now)
     (c .before .before .before .before .before .before .before .before .before .args .i) (c .before .before .before .loop .j)
 looked c =
     let r = c .before .before .before .before in
