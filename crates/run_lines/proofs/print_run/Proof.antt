@@ -32,7 +32,9 @@ put-refused-requires c κs = search needs
 
 returns-2 : tie.Need-returns-2
 returns-2 c =
-    laid-as (c .before .before .put-refused .ensures) (refused-text _ _ _ _ _ (c .before .before .before .before .before .verdict .given .1))
+    let laid = c .before .before in
+    let told = laid .before .before .before in
+    laid-as (laid .put-refused .ensures) (refused-text _ _ _ _ _ (told .verdict .given .1))
 
 same-length-2 : tie.Need-same-length-2
 same-length-2 c = laid-length (returns-2 c)

@@ -36,12 +36,12 @@ loop-less c = omega arith
 
 loop-again : tie.Need-loop-again Inv-loop μ-loop
 loop-again c =
-    let a = c .before .before .before .before .before .before in
+    let in-loop = c .before .before .before .before .before in
+    let at-loop = in-loop .before .loop in
     let m = c .before .before .mark in (
       omega arith,
-      m .kept .0 ∙ a .loop .inv .1,
-      marked-next _ _ (a .loop .k) _ _ (m .ensures)
-          (c .before .before .before .before .before .loop-test .taken) (a .loop .inv .2),
+      m .kept .0 ∙ at-loop .inv .1,
+      marked-next _ _ (at-loop .k) _ _ (m .ensures) (in-loop .loop-test .taken) (at-loop .inv .2),
     )
 
 same-length : tie.Need-same-length Inv-loop μ-loop
