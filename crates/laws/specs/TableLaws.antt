@@ -243,7 +243,7 @@ unused-part r h e =
 
 -- the rules that look at the record before, where there is one
 
-module _ (t : List ℕ) (i x y : ℕ) (later : i ≡ 0 → ⊥) (here : x ≡ ownerAt t i) (before : y ≡ ownerAt t (i - 1)) where
+module _ (t : List ℕ) (i : ℕ) {x y : ℕ} (later : i ≡ 0 → ⊥) (here : x ≡ ownerAt t i) (before : y ≡ ownerAt t (i - 1)) where
   one-back : i ≡ suc (i - 1)
   one-back = omega (arith, later)
 
@@ -254,17 +254,22 @@ module _ (t : List ℕ) (i x y : ℕ) (later : i ≡ 0 → ⊥) (here : x ≡ ow
   pub rank-due-new : (x ≡ y → ⊥) → 1 ≡ rankDue t i
   rank-due-new f = sym (ap (rankDue t) one-back ∙ due-new t (i - 1) (λ e. f (here ∙ ap (ownerAt t) one-back ∙ e ∙ sym before)))
 
-  pub rank-due-same : (n : ℕ) → x ≡ y → n ≡ rankAt t (i - 1) → n + 1 ≡ rankDue t i
-  rank-due-same n e r =
+  pub rank-due-same : {n : ℕ} → x ≡ y → n ≡ rankAt t (i - 1) → n + 1 ≡ rankDue t i
+  rank-due-same {n} e r =
       rw (r, add-one) (sym (ap (rankDue t) one-back ∙ due-same t (i - 1) (sym (ap (ownerAt t) one-back) ∙ sym here ∙ e ∙ before)))
 
 -- the test of 8, from what was read of the record
-pub last-seen : (r R : List ℕ) (h b : ℕ) (x : Bool) → r ≡ R → h ≡ hopsOf R → b ≡ getD r (h + 2) 0 → x ≡ outside 0 0 b → x ≡ lastBad R
+pub last-seen : {r R : List ℕ} {h b : ℕ} {x : Bool}
+    → r ≡ R
+    → h ≡ hopsOf R
+    → b ≡ getD r (h + 2) 0
+    → x ≡ outside 0 0 b
+    → x ≡ lastBad R
 unfolding lastBad
-last-seen r R h b x e k m q = let n : h + 2 ≡ 2 + hopsOf R = omega arith in q ∙ rw (m, n, e)
+last-seen {r} {R} {h} {b} {x} e k m q = let n : h + 2 ≡ 2 + hopsOf R = omega arith in q ∙ rw (m, n, e)
 
 -- the tests of 6 and 10, from what was read of the record
-module _ (r R : List ℕ) (h : ℕ) (b : Bool) (e : r ≡ R) (k : h ≡ hopsOf R)
+module _ {r R : List ℕ} {h : ℕ} {b : Bool} (e : r ≡ R) (k : h ≡ hopsOf R)
     (look : b ≡ anyIn (outside 255 255) (take (15 - (h + 3)) (drop (h + 3) r))) where
   unused-seen : anyIn (outside 255 255) (unusedOf R) ≡ b
   unused-seen = rw (← (unused-part R h k), ← e) (sym look)
@@ -273,9 +278,9 @@ module _ (r R : List ℕ) (h : ℕ) (b : Bool) (e : r ≡ R) (k : h ≡ hopsOf R
   unfolding fillerBad
   filler-hit q = sym (or-left (anyIn (outside 255 255) (unusedOf R)) (outside 0 0 (getD R 15 0)) (unused-seen ∙ q))
 
-  pub filler-rest : (x : Bool) → b ≡ false → x ≡ outside 0 0 (getD r 15 0) → x ≡ fillerBad R
+  pub filler-rest : {x : Bool} → b ≡ false → x ≡ outside 0 0 (getD r 15 0) → x ≡ fillerBad R
   unfolding fillerBad
-  filler-rest x q g = g ∙ rw (unused-seen ∙ q, e)
+  filler-rest {x} q g = g ∙ rw (unused-seen ∙ q, e)
 
 module _ (t : List ℕ) (i x : ℕ) (e : x ≡ rankAt t i) where
   pub rank-high : 16 < x → true ≡ rankBad t i

@@ -174,14 +174,14 @@ module _ (row : List ℕ) (b : ℕ) where
   unfolding rowLine
   row-absent v e h = rw (eq-eqb (getD row 0 0) 254 (sym e ∙ h), rowLine)
 
-  pub row-present : (v rank : ℕ) (path : List ℕ)
+  pub row-present : (v : ℕ) {rank : ℕ} {path : List ℕ}
       → b ≡ getD row 0 0
       → b ≢ 254
       → rank ≡ getD row 1 0
       → path ≡ rowPath row
       → decimal v ++ stageWords row ++ routeWords rank path ++ codes "\n" ≡ rowLine v row
   unfolding rowLine
-  row-present v rank path e h q p = rw (q, p, ne-eqb (getD row 0 0) 254 (λ q. h (e ∙ q)), rowLine)
+  row-present v {rank} {path} e h q p = rw (q, p, ne-eqb (getD row 0 0) 254 (λ q. h (e ∙ q)), rowLine)
 
 -- a row's path, as a part of the row
 

@@ -45,7 +45,7 @@ loop-again c =
     let next = c .before .before in
     let owner = next .before in
     let at-loop = owner .before .before .before .loop in
-    let more = pairs-more _ _ _ _ _ (at-loop .inv .2) (owner .owner-at .ensures) (next .next-at .ensures) in
+    let more = pairs-more _ _ (at-loop .inv .2) (owner .owner-at .ensures) (next .next-at .ensures) in
     (at-loop .inv .0, omega arith, c .before .mark-pair .ensures ∙ more)
 
 returns : tie.Need-returns Inv-loop μ-loop

@@ -36,7 +36,7 @@ loop-less c = omega arith
 loop-again : tie.Need-loop-again Inv-loop μ-loop
 loop-again c =
     let a = c .before .before .before in
-    (a .loop .inv .0, omega arith, hops-more _ _ _ _ _ (a .loop .inv .2) (c .before .hops-at .ensures) (c .larger .ensures))
+    (a .loop .inv .0, omega arith, hops-more _ _ (a .loop .inv .2) (c .before .hops-at .ensures) (c .larger .ensures))
 
 returns : tie.Need-returns Inv-loop μ-loop
 unfolding longest

@@ -46,7 +46,7 @@ loop-again c =
     let at-loop = path .before .before .before .loop in (
       at-loop .inv .0,
       omega arith,
-      c .before .mark-all .ensures ∙ names-more _ _ _ _ (at-loop .inv .2) (path .path-at .ensures),
+      c .before .mark-all .ensures ∙ names-more _ _ (at-loop .inv .2) (path .path-at .ensures),
     )
 
 returns : tie.Need-returns Inv-loop μ-loop

@@ -37,7 +37,7 @@ loop-less c = omega arith
 loop-again : tie.Need-loop-again Inv-loop μ-loop
 loop-again c =
     let a = c .before .before .before in
-    (a .loop .inv .0, omega arith, slots-skip _ _ _ _ (a .loop .inv .2) (omega arith))
+    (a .loop .inv .0, omega arith, slots-skip (a .loop .inv .2) (omega arith))
 
 mul-k : tie.Need-mul-k Inv-loop μ-loop
 mul-k c = omega arith
@@ -54,7 +54,7 @@ loop-again-2 c =
     let at-loop = owner .before .before .loop in (
       at-loop .inv .0,
       omega arith,
-      slots-full _ _ _ _ (at-loop .inv .2) _ (owner .owner-at .ensures) (c .before .if1 .left) (c .if2 .taken),
+      slots-full (at-loop .inv .2) (owner .owner-at .ensures) (c .before .if1 .left) (c .if2 .taken),
     )
 
 cast-slots : tie.Need-cast-slots Inv-loop μ-loop
@@ -90,7 +90,7 @@ loop-again-3 c =
     let at-loop = owner .before .before .loop in (
       at-loop .inv .0,
       omega arith,
-      slots-store _ _ _ _ (at-loop .inv .2) _ (owner .owner-at .ensures) (c .before .if1 .left) _ refl (c .if2 .left),
+      slots-store (at-loop .inv .2) (owner .owner-at .ensures) (c .before .if1 .left) refl (c .if2 .left),
     )
 
 returns : tie.Need-returns Inv-loop μ-loop

@@ -41,7 +41,7 @@ alone8 c = alone7 (c .before .before)
 
 -- what is read of the record alone is read of record i
 own : (c : tie.After-alone) → recordAt (c .alone .result .now) 0 ≡ recordAt (start c .args .table .now) (start c .args .i)
-own c = alone-record _ _ _ (c .alone .ensures)
+own c = alone-record _ _ (c .alone .ensures)
 
 -- the first k rules are passed
 
@@ -111,7 +111,7 @@ returns-2 c =
 filler-bad-requires : tie.Need-filler-bad-requires
 filler-bad-requires c κs =
     let at-hops = c .before .before in (
-      alone-there _ _ _ (alone2 c .alone .ensures) (start (alone2 c) .pre .0),
+      alone-there _ _ (alone2 c .alone .ensures) (start (alone2 c) .pre .0),
       hops-small _ _ _ (at-hops .before .hops-bad .ensures) (at-hops .if1 .left),
     )
 

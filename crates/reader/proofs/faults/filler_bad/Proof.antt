@@ -37,7 +37,7 @@ any-outside-requires c κs = search needs
 returns : tie.Need-returns
 returns c =
     let k = c .before .before .before in
-    filler-hit _ _ _ _ (k .before .record-at .ensures) (k .hops-at .ensures) (c .before .any-outside .ensures) (c .if1 .taken)
+    filler-hit (k .before .record-at .ensures) (k .hops-at .ensures) (c .before .any-outside .ensures) (c .if1 .taken)
 
 shared-slice-read-is-outside : tie.Need-shared-slice-read-is-outside
 shared-slice-read-is-outside c =
@@ -52,7 +52,7 @@ returns-2 : tie.Need-returns-2
 returns-2 c =
     let test = c .before .before in
     let hops = test .before .before .before in
-    filler-rest _ _ _ _ (hops .before .record-at .ensures) (hops .hops-at .ensures) (test .before .any-outside .ensures) _
+    filler-rest (hops .before .record-at .ensures) (hops .hops-at .ensures) (test .before .any-outside .ensures)
     (test .if1 .left) (c .is-outside .ensures)
 
 pub filler-bad-spec : {M : Type 1} → statement M

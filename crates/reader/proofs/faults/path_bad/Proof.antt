@@ -32,11 +32,11 @@ at-rank c = c .before .before .before .before
 -- hops and rank are those of record i
 
 hops-read : (c : tie.After-hops-at Inv-loop μ-loop) → c .hops-at .result ≡ hopsAt (start c .args .table .now) (start c .args .i)
-hops-read c = c .hops-at .ensures ∙ ap hopsOf (alone-record _ _ _ (c .before .alone .ensures))
+hops-read c = c .hops-at .ensures ∙ ap hopsOf (alone-record _ _ (c .before .alone .ensures))
 
 rank-read : (c : tie.After-rank-at Inv-loop μ-loop)
     → c .rank-at .result ≡ rankAt (start (at-hops c) .args .table .now) (start (at-hops c) .args .i)
-rank-read c = c .rank-at .ensures ∙ ap rankOf (alone-record _ _ _ (at-hops c .before .alone .ensures))
+rank-read c = c .rank-at .ensures ∙ ap rankOf (alone-record _ _ (at-hops c .before .alone .ensures))
 
 alone-requires : tie.Need-alone-requires Inv-loop μ-loop
 alone-requires c κs = c .before .pre .0
@@ -87,7 +87,7 @@ looked : (c : tie.After-same-parts Inv-loop μ-loop)
 looked c =
     let rank = at-rank c in
     let s = start (at-hops rank) in
-    front-same _ _ _ _ _ _ _ (s .pre .0) (c .before .before .loop-test .taken) (s .pre .1)
+    front-same _ (s .pre .0) (c .before .before .loop-test .taken) (s .pre .1)
     (ap (λ (h : ℕ). h + 2) (hops-read (at-hops rank))) (c .before .front-at2 .ensures) (rank .before .front-at .ensures)
     (c .same-parts .ensures)
 
