@@ -32,7 +32,10 @@ run-verdict-tells (run.Refused n k) run.Accepted e = absurd (let z : _≡_ {A = 
 run-verdict-tells (run.Refused n k) (run.Refused m j) e = let r = refusal-tells _ _ e in λ i. run.Refused (r .0 i) (r .1 i)
 
 -- a run's answer is told by its refusal and its numbers
-pub run-tells : (a b : RunAnswer) → runRefusalIn (a .verdict) ≡ runRefusalIn (b .verdict) → runNumbersIn a ≡ runNumbersIn b → a ≡ b
+pub run-tells : (a b : RunAnswer)
+    → runRefusalIn (a .verdict) ≡ runRefusalIn (b .verdict)
+    → runNumbersIn a ≡ runNumbersIn b
+    → a ≡ b
 unfolding runNumbersIn
 run-tells a b e f =
     let v = run-verdict-tells (a .verdict) (b .verdict) e in

@@ -182,4 +182,5 @@ module _ (t : List ℕ) (e : refusal t ≡ none) (v : ℕ) where
   -- the path at place k is that of the block's record k
   pub path-in-block : (k : ℕ) → k < here .size → getD (pathsOf t v) k [] ≡ pathAt t (here .start + k)
   unfolding pathsOf pathsBelow
-  path-in-block k l = map-at (pathAt t) (owned t (records t) v) k 0 [] (rw owned-length l) ∙ ap (pathAt t) (owned-at k l)
+  path-in-block k l =
+      map-at (pathAt t) (owned t (records t) v) k 0 [] (rw owned-length l) ∙ ap (pathAt t) (owned-at k l)

@@ -68,7 +68,8 @@ module _ (paths : ℕ → List Path) (present : ℕ → Bool) (shaped : Shaped p
     some-rest e = omega (arith, ap length e, length-drop 1 (path k), shaped .permitted v k h .long)
 
     heard-is : lastHeard paths heard v (getD (path k) 1 0) ≡ pathFor paths (getD (path k) 1 0) (getD heard (64 * v + getD (path k) 1 0) 0)
-    heard-is = heard-in paths heard v (getD (path k) 1 0) (shaped .permitted v k h .vertices 1 (shaped .permitted v k h .long))
+    heard-is =
+        heard-in paths heard v (getD (path k) 1 0) (shaped .permitted v k h .vertices 1 (shaped .permitted v k h .long))
 
     passes : offered k ≡ true → OnOffer paths heard v k
     unfolding extends rest nextHop
@@ -133,14 +134,19 @@ module _ (paths : ℕ → List Path) (present : ℕ → Bool) (shaped : Shaped p
 -- The statement: what a vertex other than the destination chooses, and how it stands.
 pub record ExactChoice (paths : ℕ → List Path) (heard : List ℕ) (v : ℕ) : Type 0 where
   -- it chooses exactly the best of its paths whose rest is what it last heard from the next hop, and none exactly where there is none
-  pub chosen : (k : ℕ) → k < length (paths v) → (choice paths heard v ≡ getD (paths v) k []) ↔ Lowest (OnOffer paths heard v) k
+  pub chosen : (k : ℕ)
+      → k < length (paths v)
+      → (choice paths heard v ≡ getD (paths v) k []) ↔ Lowest (OnOffer paths heard v) k
   pub none : (choice paths heard v ≡ []) ↔ ((k : ℕ) → OnOffer paths heard v k → ⊥)
   -- it stands at 17 minus the rank, which counts from 1, and at 0 without a choice
   pub stands : (k : ℕ) → Lowest (OnOffer paths heard v) k → standing paths heard v ≡ 17 - suc k
   pub falls : ((k : ℕ) → OnOffer paths heard v k → ⊥) → standing paths heard v ≡ 0
 
 module _ (paths : ℕ → List Path) (present : ℕ → Bool) (shaped : Shaped paths present) (heard : List ℕ) (v : ℕ) (other : v ≢ 0) where
-  stands-at : (k : ℕ) → k < length (paths v) → choice paths heard v ≡ getD (paths v) k [] → standing paths heard v ≡ 17 - suc k
+  stands-at : (k : ℕ)
+      → k < length (paths v)
+      → choice paths heard v ≡ getD (paths v) k []
+      → standing paths heard v ≡ 17 - suc k
   unfolding standing rankIn standingOf
   stands-at k h e =
       let r = place-distinct (paths v) (shaped .distinct v) k h in
@@ -210,7 +216,9 @@ module _ (paths : ℕ → List Path) (present : ℕ → Bool) (shaped : Shaped p
   abbrev speaker : ℕ
   speaker = p .speaker
 
-  stored : (n : ℕ) → byteFor paths speaker (choice paths heard speaker) ≡ n → getD (step paths heard p) (64 * p .listener + speaker) 0 ≡ n
+  stored : (n : ℕ)
+      → byteFor paths speaker (choice paths heard speaker) ≡ n
+      → getD (step paths heard p) (64 * p .listener + speaker) 0 ≡ n
   unfolding offsetOf
   stored n e = step-here paths heard p room ∙ e
 

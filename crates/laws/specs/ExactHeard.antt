@@ -65,7 +65,11 @@ module _ {A : Type 0} (test : ℕ → A → Bool) (d : A) where
 
   -- one element more in front, which fails
   module _ (x : A) (xs : List A) (i : ℕ) (q : test i x ≡ false) where
-    fails-on : (n : ℕ) → ((k : ℕ) → k < n → passes xs (suc i) k ≡ false) → (k : ℕ) → k < suc n → passes (x ∷ xs) i k ≡ false
+    fails-on : (n : ℕ)
+        → ((k : ℕ) → k < n → passes xs (suc i) k ≡ false)
+        → (k : ℕ)
+        → k < suc n
+        → passes (x ∷ xs) i k ≡ false
     fails-on n f zero h = let z : i + 0 ≡ i = omega arith in rw z q
     fails-on n f (suc k) h = let z : i + suc k ≡ suc i + k = omega arith in rw z (f k (omega arith))
 
@@ -170,7 +174,8 @@ module _ (paths : ℕ → List Path) where
         (lt-ltb (length (speaks paths (k % 64))) b (is-high (k % 64) b h))) w)
 
   -- 12: the place is exactly the lowest bad offset, and there is none exactly where the heard state is valid
-  pub heard-exactly : (heard : List ℕ) → Tells (heardFault paths heard) (BadByte (ListensAmong paths) (λ u. length (paths u)) heard)
+  pub heard-exactly : (heard : List ℕ)
+      → Tells (heardFault paths heard) (BadByte (ListensAmong paths) (λ u. length (paths u)) heard)
   unfolding heardFault
   heard-exactly heard =
       search-tells (badByte paths) 0 heard (BadByte (ListensAmong paths) (λ u. length (paths u)) heard) (λ k p. p .under)
@@ -178,7 +183,8 @@ module _ (paths : ℕ → List Path) where
       (λ k p. wrong-bad k (getD heard k 0) (p .something) (p .wrong))
 
   -- 14: the place is exactly the lowest pair that does not listen
-  pub pairs-exactly : (schedule : List ℕ) → Tells (firstBadPair paths (pairsIn schedule)) (BadPair (ListensAmong paths) schedule)
+  pub pairs-exactly : (schedule : List ℕ)
+      → Tells (firstBadPair paths (pairsIn schedule)) (BadPair (ListensAmong paths) schedule)
   unfolding firstBadPair
   pairs-exactly s =
       search-tells (λ i p. not (listens paths (p .listener) (p .speaker))) noPair (pairsIn s) (BadPair (ListensAmong paths) s)
@@ -233,7 +239,8 @@ module _ (t : List ℕ) (e : refusal t ≡ none) where
 
     -- v listens to u exactly where some record of v has u as its second vertex
     pub table-listens : (listens (pathsOf t) v u ≡ true) ↔ ListensIn t v u
-    table-listens = (λ q. among-in (listens-exactly (pathsOf t) v u .0 q), λ l. listens-exactly (pathsOf t) v u .1 (in-among l))
+    table-listens =
+        (λ q. among-in (listens-exactly (pathsOf t) v u .0 q), λ l. listens-exactly (pathsOf t) v u .1 (in-among l))
 
 -- a byte that is bad is bad where the same listen and have as many records
 bad-as : (L M : ℕ → ℕ → Type 0) (n m : ℕ → ℕ) (heard : List ℕ)

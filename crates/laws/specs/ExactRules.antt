@@ -22,7 +22,8 @@ use Rattle.laws.specs.Plain.{byteAt, rankByte, hopsByte, vertexByte, own
 none-in : {A : Type 0} (test : A → Bool) (l : List A) (d : A)
     → ((k : ℕ) → k < length l → test (getD l k d) ≡ false)
     → anyIn test l ≡ false
-none-in test l d f = by-test (anyIn test l) (λ q. let r = some-at test l d q in absurd (true≢ (r .2) (f (r .0) (r .1)))) (λ q. q)
+none-in test l d f =
+    by-test (anyIn test l) (λ q. let r = some-at test l d q in absurd (true≢ (r .2) (f (r .0) (r .1)))) (λ q. q)
 
 -- the bytes of a record, read through the definitions
 
@@ -277,7 +278,10 @@ module _ (t : List ℕ) (i : ℕ) (h : i < records t) (small : hopsByte t i ≤ 
       ∙ ap (λ (n : ℕ). byteAt t i (3 + n + k)) (hops-is t i)
 
   -- they are the bytes from behind the vertices to byte 14
-  unused-at : (k : ℕ) → 3 + hopsByte t i ≤ k → k ≤ 14 → getD (unusedOf (recordAt t i)) (k - (3 + hopsByte t i)) 0 ≡ byteAt t i k
+  unused-at : (k : ℕ)
+      → 3 + hopsByte t i ≤ k
+      → k ≤ 14
+      → getD (unusedOf (recordAt t i)) (k - (3 + hopsByte t i)) 0 ≡ byteAt t i k
   unused-at k lo hi =
       let z : 3 + hopsByte t i + (k - (3 + hopsByte t i)) ≡ k = omega arith in
       unused-byte (k - (3 + hopsByte t i)) (omega arith) ∙ ap (byteAt t i) z

@@ -56,7 +56,9 @@ module _ (paths : ℕ → List Path) (present : ℕ → Bool) where
   settled-zero v h = tabulate-at atStart 64 v none h
 
   -- each stage judges against what the stage before left
-  pub settled-suc : (k v : ℕ) → v < 64 → settled paths present (suc k) v ≡ stage paths present (settled paths present k) v
+  pub settled-suc : (k v : ℕ)
+      → v < 64
+      → settled paths present (suc k) v ≡ stage paths present (settled paths present k) v
   unfolding settled settledList
   settled-suc k v h = tabulate-at (stage paths present (settled paths present k)) 64 v none h
 
@@ -79,7 +81,10 @@ module _ (paths : ℕ → List Path) (present : ℕ → Bool) where
   stage-keeps S v p e = rw (e, stage)
 
   -- it judges a present unsettled vertex, and no other
-  pub stage-judges : (S : Settled) (v : ℕ) → S v ≡ none → present v ≡ true → stage paths present S v ≡ judged S (best paths S v)
+  pub stage-judges : (S : Settled) (v : ℕ)
+      → S v ≡ none
+      → present v ≡ true
+      → stage paths present S v ≡ judged S (best paths S v)
   unfolding stage
   stage-judges S v e p = rw (e, p, stage)
 
@@ -88,10 +93,14 @@ module _ (paths : ℕ → List Path) (present : ℕ → Bool) where
   stage-absent S v e p = rw (e, p, stage)
 
   -- a settled vertex stays as it is
-  pub settled-stays : (k v : ℕ) (p : Path) → settled paths present k v ≡ some p → settled paths present (suc k) v ≡ some p
+  pub settled-stays : (k v : ℕ) (p : Path)
+      → settled paths present k v ≡ some p
+      → settled paths present (suc k) v ≡ some p
   settled-stays k v p e = settled-suc k v (settled-range k v p e) ∙ stage-keeps (settled paths present k) v p e
 
-  pub settled-later : (k n v : ℕ) (p : Path) → settled paths present k v ≡ some p → settled paths present (k + n) v ≡ some p
+  pub settled-later : (k n v : ℕ) (p : Path)
+      → settled paths present k v ≡ some p
+      → settled paths present (k + n) v ≡ some p
   settled-later k zero v p e = let z : k + 0 ≡ k = omega arith in rw z e
   settled-later k (suc n) v p e =
       let z : k + suc n ≡ suc (k + n) = omega arith in

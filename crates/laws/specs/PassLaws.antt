@@ -22,7 +22,11 @@ use Rattle.laws.specs.MachineLaws.{speaks-destination, speaks-other}
 module _ (t : List ℕ) (i : ℕ) where
   -- the greatest hops
 
-  pub hops-more : {m h n : ℕ} → m ≡ maxBelow (hopsAt t) i → h ≡ hopsAt t i → n ≡ max m h → n ≡ maxBelow (hopsAt t) (i + 1)
+  pub hops-more : {m h n : ℕ}
+      → m ≡ maxBelow (hopsAt t) i
+      → h ≡ hopsAt t i
+      → n ≡ max m h
+      → n ≡ maxBelow (hopsAt t) (i + 1)
   hops-more {m} {h} {n} e f g = g ∙ rw (e, f, add-one) (sym (max-suc (hopsAt t) i))
 
   -- the vertices that the records below i name
@@ -140,7 +144,8 @@ module _ (t : List ℕ) (i : ℕ) (counts : List ℕ) (come : counts ≡ ownedCo
     -- a vertex has no more records than were seen
     pub counts-small : getD counts v 0 ≤ i
     unfolding owned
-    counts-small = omega (arith, counts-at, those-count (λ j. eqb (ownerAt t j) v) i, count-most (λ j. eqb (ownerAt t j) v) i)
+    counts-small =
+        omega (arith, counts-at, those-count (λ j. eqb (ownerAt t j) v) i, count-most (λ j. eqb (ownerAt t j) v) i)
 
     -- any other record is one more of its owner
     pub counts-more : set counts v (getD counts v 0 + 1) ≡ ownedCounts t (i + 1)
@@ -257,6 +262,9 @@ pub pair-skip : (marks : List Bool) (v u : ℕ) → 64 ≤ u → marks ≡ pairM
 unfolding pairMarked
 pair-skip marks v u h = rw (le-ltb u 64 h, pairMarked)
 
-pub pair-store : (marks next : List Bool) (v u : ℕ) → u < 64 → next ≡ set marks (v * 64 + u) true → next ≡ pairMarked marks v u
+pub pair-store : (marks next : List Bool) (v u : ℕ)
+    → u < 64
+    → next ≡ set marks (v * 64 + u) true
+    → next ≡ pairMarked marks v u
 unfolding pairMarked
 pair-store marks next v u h e = let k : v * 64 + u ≡ 64 * v + u = omega arith in e ∙ rw (lt-ltb u 64 h, pairMarked) (rw k)

@@ -161,7 +161,10 @@ module _ (p : Path) where
   place-miss q qs f e = rw (placeIn, differ p q f, e)
 
   -- past the head its place is one more
-  pub place-tail : (q : Path) (qs : List Path) (k : ℕ) → (p ≡ q → ⊥) → placeIn p qs ≡ suc k → placeIn p (q ∷ qs) ≡ suc (suc k)
+  pub place-tail : (q : Path) (qs : List Path) (k : ℕ)
+      → (p ≡ q → ⊥)
+      → placeIn p qs ≡ suc k
+      → placeIn p (q ∷ qs) ≡ suc (suc k)
   unfolding placeIn
   place-tail q qs k f e = rw (placeIn, differ p q f, e)
 

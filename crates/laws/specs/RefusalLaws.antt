@@ -106,7 +106,9 @@ module _ (t heard s : List ℕ) (sums : List ℤ) (r : Refusal) (e : runRefusal 
       (λ n. run-at 1 0 (run-refused-length t heard s sums n) (omega arith) (omega arith) (omega arith))
 
 -- an accepted run answers no more rounds than a schedule has pairs
-pub rounds-few : (t heard s : List ℕ) (sums : List ℤ) → runRefusal t heard s sums ≡ none → getD (runNumbers t heard s sums) 4 0 ≤ 16384
+pub rounds-few : (t heard s : List ℕ) (sums : List ℤ)
+    → runRefusal t heard s sums ≡ none
+    → getD (runNumbers t heard s sums) 4 0 ≤ 16384
 unfolding runNumbers unless
 rounds-few t heard s sums e =
     let paths = pathsOf t in

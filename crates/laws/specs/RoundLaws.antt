@@ -68,7 +68,8 @@ closes-count f n since k h e =
 
 -- one activation more: at the end of the schedule and at the head of what has been activated since
 
-more-behind : (k : ℕ) (s : List Pair) (p : Pair) → elem k (map offsetOf (s ++ p ∷ [])) ≡ elem k (map offsetOf s) || eqb k (offsetOf p)
+more-behind : (k : ℕ) (s : List Pair) (p : Pair)
+    → elem k (map offsetOf (s ++ p ∷ [])) ≡ elem k (map offsetOf s) || eqb k (offsetOf p)
 more-behind k s p = ap (elem k) (map-append offsetOf s (p ∷ [])) ∙ elem-more k (map offsetOf s) (offsetOf p)
 
 all-behind : (since : List ℕ) (s : List Pair) (p : Pair)
@@ -127,7 +128,10 @@ module _ (pairs : List ℕ) where
       }
 
   -- rounds one after the other add
-  pub contains-add : (m n : ℕ) (s t : List Pair) → Contains pairs m s → Contains pairs n t → Contains pairs (m + n) (s ++ t)
+  pub contains-add : (m n : ℕ) (s t : List Pair)
+      → Contains pairs m s
+      → Contains pairs n t
+      → Contains pairs (m + n) (s ++ t)
   unfolding Contains
   contains-add m zero s t c d = let z : m + 0 ≡ m = omega arith in rw z (contains-behind m s t c)
   contains-add m (suc n) s t c d =
@@ -245,7 +249,8 @@ module _ (pairs : List ℕ) where
     tallied y s = foldLeft (activated paths pairs) y s
 
     -- the one holds of the tally from the beginning
-    tally-closed : (heard : List ℕ) (s : List Pair) → Closed s (tallied (begun heard) s .rounds) (tallied (begun heard) s .since)
+    tally-closed : (heard : List ℕ) (s : List Pair)
+        → Closed s (tallied (begun heard) s .rounds) (tallied (begun heard) s .since)
     unfolding activated begun
     tally-closed heard s =
         fold-follows (activated paths pairs) (λ s y. Closed s (y .rounds) (y .since))
@@ -275,7 +280,10 @@ module _ (pairs : List ℕ) where
         omega (arith, waiting-closes (y .rounds) stretch _ _ some f w, tally-waiting (tallied y stretch) rest (w .notDue) .least)
 
     -- all rounds that a schedule contains are counted, where there is a pair
-    contained-counted : pairs ≢ [] → (heard : List ℕ) (n : ℕ) (s : List Pair) → Contains pairs n s → n ≤ tallied (begun heard) s .rounds
+    contained-counted : pairs ≢ []
+        → (heard : List ℕ) (n : ℕ) (s : List Pair)
+        → Contains pairs n s
+        → n ≤ tallied (begun heard) s .rounds
     unfolding begun
     contained-counted some heard zero s c = omega arith
     contained-counted some heard (suc n) s c =
@@ -295,10 +303,14 @@ module _ (paths : ℕ → List Path) (heard : List ℕ) (s : List Pair) where
   -- the counted rounds are rounds
   pub rounds-contained : Contains (listeningOffsets paths) (run paths heard s .rounds) s
   unfolding run
-  rounds-contained = closed-contains (listeningOffsets paths) s _ _ (tally-closed (listeningOffsets paths) paths heard s)
+  rounds-contained =
+      closed-contains (listeningOffsets paths) s _ _ (tally-closed (listeningOffsets paths) paths heard s)
 
   -- and no schedule with a listening pair contains more
-  pub rounds-greatest : listeningOffsets paths ≢ [] → (n : ℕ) → Contains (listeningOffsets paths) n s → n ≤ run paths heard s .rounds
+  pub rounds-greatest : listeningOffsets paths ≢ []
+      → (n : ℕ)
+      → Contains (listeningOffsets paths) n s
+      → n ≤ run paths heard s .rounds
   unfolding run
   rounds-greatest some n c = contained-counted (listeningOffsets paths) paths some heard n s c
 

@@ -50,11 +50,13 @@ module _ (t : List ℕ) (e : refusal t ≡ none) (i : ℕ) (h : i < records t) w
 
   path-byte : (k : ℕ) → k ≤ hopsAt t i → getD (pathAt t i) k 0 ≡ getD (recordAt t i) (2 + k) 0
   unfolding pathOf
-  path-byte k l = getD-take (suc (hopsAt t i)) (drop 2 (recordAt t i)) k 0 (omega arith) ∙ getD-drop 2 (recordAt t i) k 0
+  path-byte k l =
+      getD-take (suc (hopsAt t i)) (drop 2 (recordAt t i)) k 0 (omega arith) ∙ getD-drop 2 (recordAt t i) k 0
 
   vertex-small : (k : ℕ) → k < length (pathAt t i) → getD (pathAt t i) k 0 ≤ 63
   unfolding vertexBad
-  vertex-small k l = inside 0 63 (getD (pathAt t i) k 0) (none-at (outside 0 63) (pathAt t i) 0 (keeps .vertices) k l) .1
+  vertex-small k l =
+      inside 0 63 (getD (pathAt t i) k 0) (none-at (outside 0 63) (pathAt t i) 0 (keeps .vertices) k l) .1
 
   apart : (a b : ℕ) → a < b → b < length (pathAt t i) → getD (pathAt t i) a 0 ≡ getD (pathAt t i) b 0 → ⊥
   unfolding twiceBad
@@ -96,7 +98,9 @@ module _ (t : List ℕ) (e : refusal t ≡ none) (i : ℕ) (h : i < records t) w
 
   pub names : (k : ℕ) → k < length (pathAt t i) → present t (getD (pathAt t i) k 0) ≡ true
   unfolding present
-  names k l = or-right (eqb (getD (pathAt t i) k 0) 0) _ (any-below (λ j. elem (getD (pathAt t i) k 0) (pathAt t j)) (records t) i h (elem-at (pathAt t i) k l))
+  names k l =
+      or-right (eqb (getD (pathAt t i) k 0) 0) _
+      (any-below (λ j. elem (getD (pathAt t i) k 0) (pathAt t j)) (records t) i h (elem-at (pathAt t i) k l))
 
   pub permitted : Permitted (present t) (ownerAt t i) (pathAt t i)
   unfolding twiceBad

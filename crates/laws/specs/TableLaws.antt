@@ -83,7 +83,10 @@ Between [] = Unit {0}
 Between (r ∷ rs) = (4 ≤ r .number) × (r .number ≤ 11) × Between rs
 
 module _ (t : List ℕ) (i : ℕ) where
-  broken-range : (rs : List Rule) → Between rs → (firstBroken rs t i ≡ 0 → ⊥) → (4 ≤ firstBroken rs t i) × (firstBroken rs t i ≤ 11)
+  broken-range : (rs : List Rule)
+      → Between rs
+      → (firstBroken rs t i ≡ 0 → ⊥)
+      → (4 ≤ firstBroken rs t i) × (firstBroken rs t i ≤ 11)
   unfolding firstBroken
   broken-range [] b f = absurd (f refl)
   broken-range (r ∷ rs) b f =
@@ -203,7 +206,10 @@ unfolding pathOf ownerOf
 path-owner r = getD-take (suc (hopsOf r)) (drop 2 r) 0 0 (omega arith) ∙ getD-drop 2 r 0 0
 
 -- records before the owner's block have other paths
-pub others-differ : (t : List ℕ) (i j : ℕ) → Orderly t (i + 1) → j + rankAt t i ≤ i → same (pathAt t j) (pathAt t i) ≡ false
+pub others-differ : (t : List ℕ) (i j : ℕ)
+    → Orderly t (i + 1)
+    → j + rankAt t i ≤ i
+    → same (pathAt t j) (pathAt t i) ≡ false
 others-differ t i j o h =
     differ (pathAt t j) (pathAt t i)
     (λ e. let owner : (j : ℕ) → getD (pathAt t j) 0 0 ≡ ownerAt t j = λ j. path-owner (recordAt t j) in
@@ -249,10 +255,13 @@ module _ (t : List ℕ) (i : ℕ) {x y : ℕ} (later : i ≡ 0 → ⊥) (here : 
 
   pub owner-bad-later : ltb x y ≡ ownerBad t i
   unfolding ownerBad
-  owner-bad-later = rw (here, before) (sym (ap (ownerBad t) one-back ∙ ap (λ (k : ℕ). ltb (ownerAt t k) (ownerAt t (i - 1))) (sym one-back)))
+  owner-bad-later =
+      rw (here, before)
+      (sym (ap (ownerBad t) one-back ∙ ap (λ (k : ℕ). ltb (ownerAt t k) (ownerAt t (i - 1))) (sym one-back)))
 
   pub rank-due-new : (x ≡ y → ⊥) → 1 ≡ rankDue t i
-  rank-due-new f = sym (ap (rankDue t) one-back ∙ due-new t (i - 1) (λ e. f (here ∙ ap (ownerAt t) one-back ∙ e ∙ sym before)))
+  rank-due-new f =
+      sym (ap (rankDue t) one-back ∙ due-new t (i - 1) (λ e. f (here ∙ ap (ownerAt t) one-back ∙ e ∙ sym before)))
 
   pub rank-due-same : {n : ℕ} → x ≡ y → n ≡ rankAt t (i - 1) → n + 1 ≡ rankDue t i
   rank-due-same {n} e r =

@@ -125,7 +125,9 @@ spaced-append [] n = append-nil (labelled " " n)
 spaced-append (m ∷ ns) n = rw (spaced-append ns n) (simp append-assoc)
 
 -- one more number behind those before it
-pub spaced-more : (ns : List ℕ) (k : ℕ) → k < length ns → spaced (take k ns) ++ labelled " " (getD ns k 0) ≡ spaced (take (k + 1) ns)
+pub spaced-more : (ns : List ℕ) (k : ℕ)
+    → k < length ns
+    → spaced (take k ns) ++ labelled " " (getD ns k 0) ≡ spaced (take (k + 1) ns)
 spaced-more ns k h =
     rw (add-one, take-suc ns k 0 h) (sym (spaced-append (take k ns) (getD ns k 0)))
 
@@ -186,7 +188,10 @@ module _ (row : List ℕ) (b : ℕ) where
 -- a row's path, as a part of the row
 
 module _ (row : List ℕ) where
-  pub row-path-part : (h e : ℕ) → h ≡ getD row 2 0 → e ≡ min (h + 4) (length row) → take (e - 3) (drop 3 row) ≡ rowPath row
+  pub row-path-part : (h e : ℕ)
+      → h ≡ getD row 2 0
+      → e ≡ min (h + 4) (length row)
+      → take (e - 3) (drop 3 row) ≡ rowPath row
   unfolding rowPath
   row-path-part h e q m = part-clipped row 3 (getD row 2 0 + 1) e (omega arith)
 
@@ -195,7 +200,9 @@ module _ (row : List ℕ) where
   row-path-short h = rw (drop-of-length-le row {i = 3} (omega arith)) (sym (take-nil (getD row 2 0 + 1)))
 
 -- the ring's vertices, as a part of the ring's buffer
-pub ring-part : (ring : List ℕ) (n e : ℕ) → e ≡ min n (length ring) → codes "ring" ++ spaced (take e ring) ++ codes "\n" ≡ ringLine n ring
+pub ring-part : (ring : List ℕ) (n e : ℕ)
+    → e ≡ min n (length ring)
+    → codes "ring" ++ spaced (take e ring) ++ codes "\n" ≡ ringLine n ring
 unfolding ringLine
 ring-part ring n e q =
     let z : e - 0 ≡ e = omega arith in
@@ -208,7 +215,9 @@ pub rows-none : (rows : List ℕ) → [] ≡ rowLines rows 0
 unfolding rowLines
 rows-none rows = sym (blocks-none (λ k. rowLine (k + 1) (rowAt rows (k + 1))))
 
-pub rows-more : (rows row : List ℕ) (v : ℕ) → row ≡ recordAt rows (v + 1) → rowLines rows v ++ rowLine (v + 1) row ≡ rowLines rows (v + 1)
+pub rows-more : (rows row : List ℕ) (v : ℕ)
+    → row ≡ recordAt rows (v + 1)
+    → rowLines rows v ++ rowLine (v + 1) row ≡ rowLines rows (v + 1)
 unfolding rowLines recordAt rowAt
 rows-more rows row v e =
     let line : ℕ → List ℕ = λ k. rowLine (k + 1) (rowAt rows (k + 1)) in
@@ -248,7 +257,8 @@ stage-most row =
 
 path-most : (row : List ℕ) → length row ≤ 16 → length (spaced (rowPath row)) ≤ 143
 unfolding rowPath
-path-most row h = omega (arith, spaced-most (rowPath row), length-take (getD row 2 0 + 1) (drop 3 row), length-drop 3 row)
+path-most row h =
+    omega (arith, spaced-most (rowPath row), length-take (getD row 2 0 + 1) (drop 3 row), length-drop 3 row)
 
 row-short : (v : ℕ) (rows : List ℕ) → length (rowAt rows v) ≤ 16
 unfolding rowAt
@@ -270,7 +280,9 @@ unfolding ringLine codes
 ring-most n ring h = simp length-append (omega (arith, spaced-most (take n ring), length-take n ring))
 
 -- the text fits 16,384 bytes
-pub text-fits : (v : Verdict) (numbers rows ring : List ℕ) → length ring ≤ 64 → length (textOf v numbers rows ring) ≤ 16384
+pub text-fits : (v : Verdict) (numbers rows ring : List ℕ)
+    → length ring ≤ 64
+    → length (textOf v numbers rows ring) ≤ 16384
 unfolding textOf codes
 text-fits complete numbers rows ring h =
     omega (arith, length-append (verdictLine (codes "complete") numbers) (rowLines rows 63), verdict-most (codes "complete") numbers (omega arith), rows-most rows)

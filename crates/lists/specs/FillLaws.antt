@@ -260,7 +260,9 @@ module _ (p : List ℕ) (n : ℕ) where
   met i v = elem v (take i p)
 
   pub met-none : replicate n false ≡ tabulate (met 0) n
-  met-none = is-tabulate (met 0) false n (replicate n false) (length-replicate n false) (λ v h. alike-at n v false ∙ sym (elem-nil v))
+  met-none =
+      is-tabulate (met 0) false n (replicate n false) (length-replicate n false)
+      (λ v h. alike-at n v false ∙ sym (elem-nil v))
 
   module _ (i : ℕ) (marks : List Bool) where
     pub met-look : (v : ℕ) (d : Bool) → marks ≡ tabulate (met i) n → v < n → getD marks v d ≡ elem v (take i p)

@@ -93,7 +93,9 @@ module _ {A : Type 0} (test : ℕ → A → Bool) where
   unfolding firstIn
   first-in-hit i x xs e = rw (e, firstIn)
 
-  pub first-in-miss : (i : ℕ) (x : A) (xs : List A) → test i x ≡ false → firstIn test i (x ∷ xs) ≡ firstIn test (suc i) xs
+  pub first-in-miss : (i : ℕ) (x : A) (xs : List A)
+      → test i x ≡ false
+      → firstIn test i (x ∷ xs) ≡ firstIn test (suc i) xs
   unfolding firstIn
   first-in-miss i x xs e = rw (e, firstIn)
 
@@ -270,7 +272,10 @@ module _ (p : List ℕ) (i : ℕ) where
       by-test (twice p) sym
       (λ q. absurd (twice-apart p q (r .0) i k h (sym (getD-take i p (r .0) 0 k) ∙ r .2)))
 
-  pub met-new : i < length p → twice (take i p) ≡ false → elem (getD p i 0) (take i p) ≡ false → twice (take (i + 1) p) ≡ false
+  pub met-new : i < length p
+      → twice (take i p) ≡ false
+      → elem (getD p i 0) (take i p) ≡ false
+      → twice (take (i + 1) p) ≡ false
   met-new h t e = rw (add-one, take-suc p i 0 h) (once-more (take i p) (getD p i 0) t e)
 
   pub met-all : length p ≤ i → twice (take i p) ≡ false → false ≡ twice p

@@ -83,7 +83,9 @@ those-blocks test size (suc n) =
     rw (mul-suc size n) (those-add test (size * n) size ∙ ap (λ (l : List ℕ). l ++ part n) (those-blocks test size n) ∙ sym (blocks-suc part n))
 
 -- an element of a map is the map of the element
-pub map-at : {A B : Type 0} (f : A → B) (l : List A) (k : ℕ) (d : A) (e : B) → k < length l → getD (map f l) k e ≡ f (getD l k d)
+pub map-at : {A B : Type 0} (f : A → B) (l : List A) (k : ℕ) (d : A) (e : B)
+    → k < length l
+    → getD (map f l) k e ≡ f (getD l k d)
 map-at f [] k d e h = absurd (not-suc-le-zero h)
 map-at f (x ∷ xs) zero d e h = refl
 map-at f (x ∷ xs) (suc k) d e h = map-at f xs k d e (omega arith)

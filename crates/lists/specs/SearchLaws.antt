@@ -69,7 +69,10 @@ module _ (test : ℕ → Bool) where
       (λ q. by-equal j i (λ r. ap test r ∙ q) (λ r. first-none (suc i) n (sym (first-miss i n q) ∙ e) j (omega arith) (omega arith)))
 
   -- a search in which some number passes finds the first that does, whatever stands for none
-  pub finds-passing : (n d k : ℕ) → k < n → test k ≡ true → Found 0 n (elim (firstFrom test 0 n) [ none ↦ d | some s ↦ s ])
+  pub finds-passing : (n d k : ℕ)
+      → k < n
+      → test k ≡ true
+      → Found 0 n (elim (firstFrom test 0 n) [ none ↦ d | some s ↦ s ])
   finds-passing n d k h e = go (firstFrom test 0 n) refl
     where
       go : (o : Option ℕ) → firstFrom test 0 n ≡ o → Found 0 n (elim o [ none ↦ d | some s ↦ s ])

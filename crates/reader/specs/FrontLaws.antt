@@ -14,7 +14,11 @@ use Rattle.rules.specs.Table.{records, recordAt, hopsOf, pathOf, hopsAt}
 use Rattle.laws.specs.TableLaws.{samePath, record-length}
 use Rattle.reader.specs.Front.{front}
 
-pub front-part : (t : List ℕ) (i n at e : ℕ) → n ≤ 15 → at ≡ i * 16 + 1 → e ≡ at + n → take (e - at) (drop at t) ≡ front t i n
+pub front-part : (t : List ℕ) (i n at e : ℕ)
+    → n ≤ 15
+    → at ≡ i * 16 + 1
+    → e ≡ at + n
+    → take (e - at) (drop at t) ≡ front t i n
 unfolding front recordAt
 front-part t i n at e h p q =
     let k : e - at ≡ n = omega arith in

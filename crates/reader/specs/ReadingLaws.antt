@@ -23,6 +23,8 @@ pub reading-accepted : (o : Option Refusal) → Accepted ≡ readingOf o → o �
 unfolding readingOf
 reading-accepted o e = sym (reading-tells none o e)
 
-pub reading-refused : (n k : ℕ) (o : Option Refusal) → Refused n k ≡ readingOf o → o ≡ some (record { number = n; place = k })
+pub reading-refused : (n k : ℕ) (o : Option Refusal)
+    → Refused n k ≡ readingOf o
+    → o ≡ some (record { number = n; place = k })
 unfolding readingOf
 reading-refused n k o e = sym (reading-tells (some (record { number = n; place = k })) o e)

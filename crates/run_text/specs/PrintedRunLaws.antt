@@ -47,7 +47,9 @@ module _ (t : List ℕ) (e : refusal t ≡ none) (v : ℕ) (h : v < 64) where
       ∙ sym (map-at (pathAt t) (owned t (records t) v) k 65535 [] m))
 
   -- the byte of a choice is its rank, but for the destination
-  choice-rank : (heard : List ℕ) → v ≢ 0 → getD (choiceBytes (pathsOf t) heard) v 0 ≡ rankIn (pathsOf t) v (choice (pathsOf t) heard v)
+  choice-rank : (heard : List ℕ)
+      → v ≢ 0
+      → getD (choiceBytes (pathsOf t) heard) v 0 ≡ rankIn (pathsOf t) v (choice (pathsOf t) heard v)
   unfolding choiceBytes byteFor rankIn
   choice-rank heard f =
       tabulate-at (λ u. byteFor (pathsOf t) u (choice (pathsOf t) heard u)) 64 v 0 h ∙ rw (speaks-other (pathsOf t) v f)
@@ -100,7 +102,8 @@ pub printed-from-zeros : (t s heardAfter chosen : List ℕ) (sumsAfter : List �
     → chosen ≡ choicesIn t heardAfter
     → runAnswerText a t chosen sumsAfter ≡ ranText t s
 unfolding ranText
-printed-from-zeros t s heardAfter chosen sumsAfter a ran choices = printed-run t _ s heardAfter chosen _ sumsAfter a ran choices
+printed-from-zeros t s heardAfter chosen sumsAfter a ran choices =
+    printed-run t _ s heardAfter chosen _ sumsAfter a ran choices
 
 -- in 8,192 bytes the whole text stands in front
 pub whole-run-text : (t s before after : List ℕ) (n : ℕ)

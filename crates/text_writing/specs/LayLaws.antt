@@ -52,7 +52,9 @@ behind-at (suc at) a b (y ∷ s) n e =
     let z : n ≡ suc (at + min (length a) (length s - at)) = omega arith in
     rw z (ap (λ (l : List ℕ). y ∷ l) (behind-at at a b s _ refl))
 
-pub laid-length : {at : ℕ} {piece before after : List ℕ} {next : ℕ} → Laid at piece before after next → length after ≡ length before
+pub laid-length : {at : ℕ} {piece before after : List ℕ} {next : ℕ}
+    → Laid at piece before after next
+    → length after ≡ length before
 laid-length {at} {piece} {before} {after} {next} l =
     ap length (l .stands)
     ∙ omega (arith, length-append (take at before) (overlaid piece (drop at before)), length-take at before, length-drop at before, overlaid-length piece (drop at before))
@@ -69,7 +71,10 @@ laid-then {at} {n} {m} {a} {b} {before} {middle} {after} p q =
     }
 
 -- a piece by another name
-pub laid-as : {at next : ℕ} {p q before after : List ℕ} → Laid at p before after next → p ≡ q → Laid at q before after next
+pub laid-as : {at next : ℕ} {p q before after : List ℕ}
+    → Laid at p before after next
+    → p ≡ q
+    → Laid at q before after next
 laid-as {at} {next} {p} {q} {before} {after} l e = rw e at l
 
 -- laying nothing changes nothing
@@ -108,7 +113,9 @@ laying-start at piece before =
     }
 
 module _ {at : ℕ} {piece before after : List ℕ} {next k : ℕ} (l : Laying at piece before after next k) where
-  pub laying-more : next < length after → k < length piece → Laying at piece before (set after next (getD piece k 0)) (next + 1) (k + 1)
+  pub laying-more : next < length after
+      → k < length piece
+      → Laying at piece before (set after next (getD piece k 0)) (next + 1) (k + 1)
   laying-more h i =
       record {
         place = omega (arith, l .place);
@@ -147,7 +154,8 @@ laid-fits {piece} {before} {after} {n} l h =
     front : (piece before : List ℕ) → length piece ≤ length before → take (length piece) (overlaid piece before) ≡ piece
     front [] before h = refl
     front (x ∷ piece) [] h = absurd (omega arith)
-    front (x ∷ piece) (y ∷ before) h = rw (overlaid-cons x y piece before) (ap (λ (l : List ℕ). x ∷ l) (front piece before (omega arith)))
+    front (x ∷ piece) (y ∷ before) h =
+        rw (overlaid-cons x y piece before) (ap (λ (l : List ℕ). x ∷ l) (front piece before (omega arith)))
 
 -- what is laid, and how far, is fixed
 pub laid-one : {at : ℕ} {piece before after after' : List ℕ} {n n' : ℕ}

@@ -30,7 +30,8 @@ range-listening : (paths : ℕ → List Path) (s : List Pair)
     → firstBadPair paths s ≡ none
     → InRange s
 unfolding InRange
-range-listening paths s small e = all s (λ k h. small (getD s k noPair .listener) (getD s k noPair .speaker) (all-listen paths s noPair e k h))
+range-listening paths s small e =
+    all s (λ k h. small (getD s k noPair .listener) (getD s k noPair .speaker) (all-listen paths s noPair e k h))
   where
     all : (s : List Pair) → ((k : ℕ) → k < length s → Vertices (getD s k noPair)) → InRange s
     all [] f = tt
@@ -138,7 +139,10 @@ module _ (t : List ℕ) (accepted : refusal t ≡ none) where
       (all-range cs (heardAfterCall t heard c) (a .1))
 
   -- the state after them is valid where the first one was
-  pub all-valid : (calls : List Call) (heard : List ℕ) → Valid t heard → AllAccepted t heard calls → Valid t (heardAfter t heard calls)
+  pub all-valid : (calls : List Call) (heard : List ℕ)
+      → Valid t heard
+      → AllAccepted t heard calls
+      → Valid t (heardAfter t heard calls)
   unfolding AllAccepted heardAfter
   all-valid [] heard valid a = valid
   all-valid (c ∷ cs) heard valid a =

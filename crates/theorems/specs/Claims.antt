@@ -98,7 +98,9 @@ pub record AsReported (t : List ℕ) (v : ℕ) (p : Path) : Type 0 where
 -- The choice of v is as reported, and stays so: now, after all accepted calls that may follow, and after each single step of them.
 pub record Stays (t heard : List ℕ) (v : ℕ) : Type 0 where
   pub now : AsReported t v (choice (pathsOf t) heard v)
-  pub afterwards : (later : List Call) → AllAccepted t heard later → AsReported t v (choice (pathsOf t) (heardAfter t heard later) v)
+  pub afterwards : (later : List Call)
+      → AllAccepted t heard later
+      → AsReported t v (choice (pathsOf t) (heardAfter t heard later) v)
   pub between : (later : List Call)
       → AllAccepted t heard later
       → (n : ℕ)

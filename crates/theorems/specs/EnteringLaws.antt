@@ -39,7 +39,9 @@ rest-shorter [] h = absurd (omega arith)
 rest-shorter (x ∷ p) h = refl
 
 -- a vertex listens to the next hop of each of its paths
-pub next-listens : (paths : ℕ → List Path) (v k : ℕ) → k < length (paths v) → listens paths v (nextHop (getD (paths v) k [])) ≡ true
+pub next-listens : (paths : ℕ → List Path) (v k : ℕ)
+    → k < length (paths v)
+    → listens paths v (nextHop (getD (paths v) k [])) ≡ true
 unfolding listens
 next-listens paths v k h =
     let w = nextHop (getD (paths v) k []) in

@@ -27,7 +27,11 @@ module _ (paths : ℕ → List Path) (present : ℕ → Bool) (shaped : Shaped p
   pairs = listeningOffsets paths
 
   -- a round activates every listening pair
-  round-activates : (v u : ℕ) → listens paths v u ≡ true → (stretch : List Pair) → Covers pairs stretch → elem (64 * v + u) (map offsetOf stretch) ≡ true
+  round-activates : (v u : ℕ)
+      → listens paths v u ≡ true
+      → (stretch : List Pair)
+      → Covers pairs stretch
+      → elem (64 * v + u) (map offsetOf stretch) ≡ true
   unfolding offsetOf elem
   round-activates v u l stretch covers =
       let r = listening paths present shaped v u l in

@@ -92,7 +92,12 @@ module _ (paths : ℕ → List Path) where
         subst C (sym new) c
 
     -- a step leaves what v heard from u, or renews it by u's choice
-    heard-on : (heard : List ℕ) (p : Pair) → Vertices p → length heard ≡ 4096 → Chosen heard → Heard heard → Heard (step paths heard p)
+    heard-on : (heard : List ℕ) (p : Pair)
+        → Vertices p
+        → length heard ≡ 4096
+        → Chosen heard
+        → Heard heard
+        → Heard (step paths heard p)
     unfolding offsetOf
     heard-on heard p r n c h =
         by-equal (64 * v + u) (offsetOf p)

@@ -206,10 +206,12 @@ pub disagree-second : StableState disagreeBytes disagreeSecond
 disagree-second = tested-stable disagreeBytes 2 (computed .disagreeRouters) disagreeSecond (computed .secondPasses)
 
 pub bleedin-edge-stable : StableState bleedinEdgeBytes bleedinStable
-bleedin-edge-stable = tested-stable bleedinEdgeBytes 4 (computed .bleedinRouters) bleedinStable (computed .bleedinPasses)
+bleedin-edge-stable =
+    tested-stable bleedinEdgeBytes 4 (computed .bleedinRouters) bleedinStable (computed .bleedinPasses)
 
 pub di-safe-gree-stable : StableState diSafeGreeBytes diSafeGreeStable
-di-safe-gree-stable = tested-stable diSafeGreeBytes 3 (computed .diSafeGreeRouters) diSafeGreeStable (computed .diSafeGreePasses)
+di-safe-gree-stable =
+    tested-stable diSafeGreeBytes 3 (computed .diSafeGreeRouters) diSafeGreeStable (computed .diSafeGreePasses)
 
 -- .. and there is no other stable assignment: DISAGREE has the two, ..
 pub disagree-only : (a : ℕ → Path)
@@ -245,11 +247,16 @@ only-one t n ps routers draws a stable =
     let z : found .0 ≡ 0 = omega (arith, found .1) in
     rw z at (found .2)
 
-pub bleedin-edge-only : (a : ℕ → Path) → Stable (pathsOf bleedinEdgeBytes) (present bleedinEdgeBytes) a → routersPaths 4 a ≡ bleedinStable
+pub bleedin-edge-only : (a : ℕ → Path)
+    → Stable (pathsOf bleedinEdgeBytes) (present bleedinEdgeBytes) a
+    → routersPaths 4 a ≡ bleedinStable
 bleedin-edge-only = only-one bleedinEdgeBytes 4 bleedinStable (computed .bleedinRouters) (computed .bleedinDraws)
 
-pub di-safe-gree-only : (a : ℕ → Path) → Stable (pathsOf diSafeGreeBytes) (present diSafeGreeBytes) a → routersPaths 3 a ≡ diSafeGreeStable
-di-safe-gree-only = only-one diSafeGreeBytes 3 diSafeGreeStable (computed .diSafeGreeRouters) (computed .diSafeGreeDraws)
+pub di-safe-gree-only : (a : ℕ → Path)
+    → Stable (pathsOf diSafeGreeBytes) (present diSafeGreeBytes) a
+    → routersPaths 3 a ≡ diSafeGreeStable
+di-safe-gree-only =
+    only-one diSafeGreeBytes 3 diSafeGreeStable (computed .diSafeGreeRouters) (computed .diSafeGreeDraws)
 
 -- What the rows come to one by one: these states rest.
 

@@ -47,7 +47,8 @@ unstable t n a = anyBelow (λ k. not (same (a (suc k)) (bestGiven (pathsOf t) a 
 -- whether a test holds of every list of n paths, for the routers 1 to n, that has one of its own paths or none for each
 unfoldable pub everyDraw : (ℕ → List Path) → ℕ → (List Path → Bool) → Bool
 everyDraw paths zero test = test []
-everyDraw paths (suc n) test = everyDraw paths n (λ ps. not (anyIn (λ p. not (test (ps ++ p ∷ []))) ([] ∷ paths (suc n))))
+everyDraw paths (suc n) test =
+    everyDraw paths n (λ ps. not (anyIn (λ p. not (test (ps ++ p ∷ []))) ([] ∷ paths (suc n))))
 
 -- if so, it holds of every assignment that gives each of these routers one of its paths or none
 every-drawn : (paths : ℕ → List Path) (a : ℕ → Path) (n : ℕ) (test : List Path → Bool)
@@ -148,17 +149,25 @@ module _ (t : List ℕ) (n : ℕ) (routers : Routers t n) where
 
     stable-drawn : (k : ℕ) → k < n → (a (suc k) ≡ []) ⊎ Stands (pathsOf t (suc k)) (a (suc k))
     unfolding bestGiven
-    stable-drawn k h = rw (stable .others (suc k) (λ z. omega arith) (router-present k h)) (first-among (extends a) (pathsOf t (suc k)))
+    stable-drawn k h =
+        rw (stable .others (suc k) (λ z. omega arith) (router-present k h))
+        (first-among (extends a) (pathsOf t (suc k)))
 
     -- so the paths of every stable assignment are named
-    pub stable-named : (named : List (List Path)) → Only t n named → (k : ℕ) × (k < length named) × (routersPaths n a ≡ getD named k [])
+    pub stable-named : (named : List (List Path))
+        → Only t n named
+        → (k : ℕ) × (k < length named) × (routersPaths n a ≡ getD named k [])
     stable-named named e =
         let drawn = every-drawn (pathsOf t) a n _ stable-drawn e in
         let found = some-at (samePaths (routersPaths n a)) named [] (rw stable-passes at drawn) in
         (found .0, found .1, same-paths (routersPaths n a) (getD named (found .0) []) (found .2))
 
 -- a state that no step at a pair of vertices changes is changed by no accepted step
-untouched : (t heard : List ℕ) → someStepChanges t heard ≡ false → (p : Pair) → stepRefusal t heard p ≡ none → heardAfterStep t heard p ≡ heard
+untouched : (t heard : List ℕ)
+    → someStepChanges t heard ≡ false
+    → (p : Pair)
+    → stepRefusal t heard p ≡ none
+    → heardAfterStep t heard p ≡ heard
 unfolding someStepChanges changesAt pairAt
 untouched t heard e p q =
     let admitted = step-admitted t heard p q in
@@ -177,7 +186,8 @@ untouched-rests t heard valid e =
 -- .. and the other way round.
 pub rests-untouched : (t heard : List ℕ) → Rests t heard → someStepChanges t heard ≡ false
 unfolding someStepChanges changesAt
-rests-untouched t heard rests = all-fail (changesAt t heard) 4096 (λ k h. rw (rests .unchanged (pairAt k)) (ap not (same-refl heard)))
+rests-untouched t heard rests =
+    all-fail (changesAt t heard) 4096 (λ k h. rw (rests .unchanged (pairAt k)) (ap not (same-refl heard)))
 
 -- whether some byte of a heard state is not what the state that stores an assignment has there
 unfoldable pub otherStored : List ℕ → (ℕ → Path) → List ℕ → Option ℕ
@@ -210,7 +220,11 @@ module _ (paths : ℕ → List Path) (v u b c : ℕ) (small : v < 64) (smaller :
 
   module _ (one : (heard : List ℕ) → getD heard (64 * v + u) 0 ≡ b → byteFor paths v (choice paths heard v) ≡ c → ⊥)
       (other : (heard : List ℕ) → getD heard (64 * u + v) 0 ≡ c → byteFor paths u (choice paths heard u) ≡ b → ⊥) where
-    step-crosses : (heard : List ℕ) (p : Pair) → Vertices p → length heard ≡ 4096 → Crossed (step paths heard p) → Crossed heard
+    step-crosses : (heard : List ℕ) (p : Pair)
+        → Vertices p
+        → length heard ≡ 4096
+        → Crossed (step paths heard p)
+        → Crossed heard
     unfolding offsetOf
     step-crosses heard p r long now =
         let kept : (k : ℕ) → k ≢ offsetOf p → getD heard k 0 ≡ getD (step paths heard p) k 0 = λ k d. sym (step-there paths heard p k d) in
@@ -227,7 +241,11 @@ module _ (paths : ℕ → List Path) (v u b c : ℕ) (small : v < 64) (smaller :
         (rw (told .1) (new ∙ ap (λ (k : ℕ). getD (step paths heard p) k 0) (sym e) ∙ now .1))))
         (λ f. (kept (64 * v + u) d ∙ now .0, kept (64 * u + v) f ∙ now .1)))
 
-    pub never-crossed : (s : List Pair) (heard : List ℕ) → InRange s → length heard ≡ 4096 → Crossed (after paths heard s) → Crossed heard
+    pub never-crossed : (s : List Pair) (heard : List ℕ)
+        → InRange s
+        → length heard ≡ 4096
+        → Crossed (after paths heard s)
+        → Crossed heard
     unfolding foldLeft InRange
     never-crossed [] heard r long now = now
     never-crossed (p ∷ s) heard r long now =

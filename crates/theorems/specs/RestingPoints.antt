@@ -83,4 +83,5 @@ module _ (t : List ℕ) (accepted : refusal t ≡ none) where
 
   -- And every valid state that no step changes is the one that stores its choices.
   pub rests-stored : (heard : List ℕ) → Rests t heard → heard ≡ storing t (choice (pathsOf t) heard)
-  rests-stored heard rests = holding-stored t accepted heard (choice (pathsOf t) heard) (rests .valid) (rests-resting heard rests)
+  rests-stored heard rests =
+      holding-stored t accepted heard (choice (pathsOf t) heard) (rests .valid) (rests-resting heard rests)

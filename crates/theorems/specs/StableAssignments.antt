@@ -44,7 +44,9 @@ module _ (t : List ℕ) (accepted : refusal t ≡ none) where
 
   -- the rows report what is settled in the end
   pub reported-settled : (v : ℕ) (p : Path) → final (pathsOf t) (present t) v ≡ some p → reportedPaths t v ≡ p
-  reported-settled v p e = sym (reported t accepted v p (settled-range (pathsOf t) (present t) (stageCount (pathsOf t) (present t)) v p e) e .path)
+  reported-settled v p e =
+      sym
+      (reported t accepted v p (settled-range (pathsOf t) (present t) (stageCount (pathsOf t) (present t)) v p e) e .path)
 
   module _ (done : verdictOf (report t .ringLength) ≡ complete) where
     -- where the verdict is complete, nobody is stuck

@@ -41,7 +41,9 @@ module _ (paths : ℕ → List Path) (present : ℕ → Bool) (shaped : Shaped p
 
     -- nobody chooses an incompatible path of at most n vertices, from here on
     abbrev Avoids : ℕ → List ℕ → Type 0
-    Avoids n heard = (u : ℕ) (p : Path) → p ≢ [] → length p ≤ n → compatible S p ≡ false → Lasting paths (λ h. choice paths h u ≢ p) heard
+    Avoids n heard =
+        (u : ℕ) (p : Path) → p ≢ [] → length p ≤ n → compatible S p ≡ false → Lasting paths
+        (λ h. choice paths h u ≢ p) heard
 
     -- no incompatible path of at most n vertices is on offer to a vertex that waits, from here on
     abbrev Withdrawn : ℕ → List ℕ → Type 0
@@ -83,7 +85,8 @@ module _ (paths : ℕ → List Path) (present : ℕ → Bool) (shaped : Shaped p
         → Contains (listeningOffsets paths) n s
         → Withdrawn (suc n) (after paths heard s)
     unfolding extends
-    withdrawn-rounds zero heard s m r holds c v k h w e short t q = absurd (omega (arith, shaped .permitted v k h .long))
+    withdrawn-rounds zero heard s m r holds c v k h w e short t q =
+        absurd (omega (arith, shaped .permitted v k h .long))
     withdrawn-rounds (suc n) heard s m r holds c v k h w e short t q =
         let p = getD (paths v) k [] in
         let permitted = shaped .permitted v k h in

@@ -21,7 +21,8 @@ use Rattle.theorems.specs.Claims.{Valid, Holding, storedByte, storing}
 use Rattle.theorems.specs.EnteringLaws.{next-listens}
 
 module _ (t : List ℕ) (assigned : ℕ → Path) (k : ℕ) where
-  stored-listening : listensAt (pathsOf t) k ≡ true → storedByte t assigned k ≡ byteFor (pathsOf t) (k % 64) (assigned (k % 64))
+  stored-listening : listensAt (pathsOf t) k ≡ true
+      → storedByte t assigned k ≡ byteFor (pathsOf t) (k % 64) (assigned (k % 64))
   unfolding storedByte
   stored-listening e = rw (e, storedByte)
 
@@ -75,7 +76,10 @@ module _ (t : List ℕ) (accepted : refusal t ≡ none) where
       }
 
   -- and it is the only valid state that holds it
-  pub holding-stored : (heard : List ℕ) (assigned : ℕ → Path) → Valid t heard → Holding t heard assigned → heard ≡ storing t assigned
+  pub holding-stored : (heard : List ℕ) (assigned : ℕ → Path)
+      → Valid t heard
+      → Holding t heard assigned
+      → heard ≡ storing t assigned
   unfolding storing listensAt
   holding-stored heard assigned valid holds =
       let paths = pathsOf t in
