@@ -23,7 +23,8 @@ fn answer(table: &[u8]) {
     io::write_all(STDOUT_FILENO, &text[..length]);
 }
 
-// The input has room for one byte more than the longest table, so that a longer one is seen; a shorter one has to be at its end.
+// The input has room for one byte more than the longest table, so that a longer one is seen; a shorter one has to be at
+// its end.
 fn main() {
     let mut input = [0; INPUT_BYTES];
     let count = io::read_full(STDIN_FILENO, &mut input);

@@ -8,7 +8,8 @@ const ROWS_BYTES: usize = 1024;
 
 const RING_BYTES: usize = 64;
 
-// Lays the check's text over the front of the lent text, as far as it fits, and answers how many bytes that is; 16,384 hold every text.
+// Lays the check's text over the front of the lent text, as far as it fits, and answers how many bytes that is; 16,384
+// hold every text.
 pub fn check_text(table: &[u8], text: &mut [u8]) -> usize
     ensures { λ r. ⌜ Laid 0 (checkText (now (table .entry))) (now (text .entry)) (now (text .exit)) r ⌝ }
 {

@@ -207,7 +207,8 @@ step-admitted table heard p e =
 pub run-whole : (table heard s : List ℕ) (sums : List ℤ) → runRefusal table heard s sums ≡ none → scheduleBad s ≡ false
 unfolding runRefusal
 run-whole table heard s sums e =
-    let c = common-none (otherLength 4096 heard || otherLength 64 sums) (refusal table) (heardFault (pathsOf table) heard) _ e in
+    let c = common-none (otherLength 4096 heard || otherLength 64 sums) (refusal table)
+    (heardFault (pathsOf table) heard) _ e in
     if-none (scheduleBad s) 13 (both-none (refusedIf (scheduleBad s) 13) _ (c .1 .1) .0)
 
 pub run-admitted : (table heard s : List ℕ) (sums : List ℤ)
@@ -217,7 +218,8 @@ unfolding runRefusal
 run-admitted table heard s sums e =
     let lent = otherLength 4096 heard || otherLength 64 sums in
     let pairs = firstBadPair (pathsOf table) (pairsIn s) in
-    let c = common-none lent (refusal table) (heardFault (pathsOf table) heard) (refusedIf (scheduleBad s) 13 orElse refusedAt pairs 14) e in
+    let c = common-none lent (refusal table) (heardFault (pathsOf table) heard)
+    (refusedIf (scheduleBad s) 13 orElse refusedAt pairs 14) e in
     record {
       long = right-length 4096 heard (or-none (otherLength 4096 heard) (otherLength 64 sums) (c .0 .0) .0);
       accepted = c .0 .1;

@@ -1,4 +1,5 @@
--- Exactness of the choice, the standing and the step: the choice is exactly the best path that is on offer, and a step stores its rank.
+-- Exactness of the choice, the standing and the step: the choice is exactly the best path that is on offer, and a step
+-- stores its rank.
 use mathlib.Core.Path.{_≡_, refl, sym, ap, _∙_}
 use mathlib.Core.Logic.{_≢_, _↔_, inl, inr}
 use mathlib.Core.Bool.{Bool, true, false}
@@ -82,7 +83,8 @@ module _ (paths : ℕ → List Path) (present : ℕ → Bool) (shaped : Shaped p
     passing : OnOffer paths heard v k → offered k ≡ true
     unfolding extends rest nextHop
     passing o =
-        let e : lastHeard paths heard v (getD (path k) 1 0) ≡ drop 1 (path k) = heard-is ∙ tells paths _ _ (drop 1 (path k)) (o .told) in
+        let e : lastHeard paths heard v (getD (path k) 1 0) ≡ drop 1 (path k) = heard-is ∙ tells paths _ _
+        (drop 1 (path k)) (o .told) in
         rw e (same-refl (drop 1 (path k)))
 
     fails : (OnOffer paths heard v k → ⊥) → offered k ≡ false
@@ -107,7 +109,8 @@ module _ (paths : ℕ → List Path) (present : ℕ → Bool) (shaped : Shaped p
     lowest-chosen k l =
         let h = l .holds .under in
         choice-is
-        ∙ first-at (extends (lastHeard paths heard v)) (paths v) k h (passing k h (l .holds)) (λ j m. fails j (omega arith) (l .lowest j m))
+        ∙ first-at (extends (lastHeard paths heard v)) (paths v) k h (passing k h (l .holds))
+        (λ j m. fails j (omega arith) (l .lowest j m))
 
     none-chosen : ((k : ℕ) → OnOffer paths heard v k → ⊥) → choice paths heard v ≡ []
     none-chosen f = choice-is ∙ first-missing (extends (lastHeard paths heard v)) (paths v) (λ k h. fails k h (f k))
@@ -133,7 +136,8 @@ module _ (paths : ℕ → List Path) (present : ℕ → Bool) (shaped : Shaped p
 
 -- The statement: what a vertex other than the destination chooses, and how it stands.
 pub record ExactChoice (paths : ℕ → List Path) (heard : List ℕ) (v : ℕ) : Type 0 where
-  -- it chooses exactly the best of its paths whose rest is what it last heard from the next hop, and none exactly where there is none
+  -- it chooses exactly the best of its paths whose rest is what it last heard from the next hop, and none exactly where
+  -- there is none
   pub chosen : (k : ℕ)
       → k < length (paths v)
       → (choice paths heard v ≡ getD (paths v) k []) ↔ Lowest (OnOffer paths heard v) k
@@ -180,7 +184,8 @@ module _ (paths : ℕ → List Path) (present : ℕ → Bool) (shaped : Shaped p
       go : Offers paths present shaped heard v other → ExactChoice paths heard v
       go (something j l) =
           both
-          (λ k h e. let z : j ≡ k = same-place paths present shaped heard v other j k (l .holds .under) h (sym (lowest j l) ∙ e) in rw (← z) l)
+          (λ k h e. let z : j ≡ k = same-place paths present shaped heard v other j k (l .holds .under) h
+          (sym (lowest j l) ∙ e) in rw (← z) l)
           (λ e. absurd (full j (l .holds .under) (sym (lowest j l) ∙ e)))
       go (nothing n) = both (λ k h e. absurd (full k h (sym e ∙ empty n))) (λ e. n)
 
@@ -229,7 +234,8 @@ module _ (paths : ℕ → List Path) (present : ℕ → Bool) (shaped : Shaped p
       record {
         size = step-length paths heard p;
         elsewhere = step-there paths heard p;
-        destination = λ z. stored 1 (byte-destination paths speaker _ z (ap (choice paths heard) z ∙ choice-destination paths heard));
+        destination = λ z. stored 1 (byte-destination paths speaker _ z
+            (ap (choice paths heard) z ∙ choice-destination paths heard));
         rank = λ z k l. stored (suc k)
             (byte-other paths speaker _ z
             ∙ ap (rankIn paths speaker) (exact-choice paths present shaped heard speaker z .chosen k (l .holds .under) .1 l)

@@ -1,4 +1,5 @@
--- Each test of a record is exactly the plain rule with its number, and a record's fault is the number of the first rule that it breaks.
+-- Each test of a record is exactly the plain rule with its number, and a record's fault is the number of the first rule
+-- that it breaks.
 use mathlib.Core.Path.{_≡_, refl, sym, ap, _∙_}
 use mathlib.Core.Logic.{_≢_}
 use mathlib.Core.Bool.{Bool, false, not}
@@ -184,7 +185,8 @@ module _ (t : List ℕ) (i : ℕ) where
   says-4 =
       record {
         keeps = λ e. let x = inside 1 12 (hopsAt t i) e in keeps-4 t i (omega (arith, hops-is t i));
-        fails = λ k. let h = k .hops refl in is-inside 1 12 (hopsAt t i) (omega (arith, hops-is t i)) (omega (arith, hops-is t i));
+        fails = λ k. let h = k .hops refl in is-inside 1 12 (hopsAt t i) (omega (arith, hops-is t i))
+            (omega (arith, hops-is t i));
       }
 
 says-9 : (t : List ℕ) (i : ℕ) → Says t i 9 (ownerBad t i)
@@ -303,9 +305,11 @@ module _ (t : List ℕ) (i : ℕ) (h : i < records t) (small : hopsByte t i ≤ 
             });
         fails = λ r. let u = r .unused refl in
             neither any (outside 0 0 end)
-            (none-in (outside 255 255) (unusedOf (recordAt t i)) 0 (λ k l. let m : k < 12 - hopsByte t i = omega (arith, unused-length) in
+            (none-in (outside 255 255) (unusedOf (recordAt t i)) 0
+            (λ k l. let m : k < 12 - hopsByte t i = omega (arith, unused-length) in
             let x = u .filled (3 + hopsByte t i + k) (omega arith) (omega arith) in
-            is-inside 255 255 (getD (unusedOf (recordAt t i)) k 0) (omega (arith, unused-byte k m)) (omega (arith, unused-byte k m))))
+            is-inside 255 255 (getD (unusedOf (recordAt t i)) k 0) (omega (arith, unused-byte k m))
+            (omega (arith, unused-byte k m))))
             (is-inside 0 0 end (omega arith) (omega (arith, u .end)));
       }
 
@@ -340,7 +344,8 @@ module _ (t : List ℕ) (i : ℕ) (h : i < records t) (small : hopsByte t i ≤ 
     path-same e =
         record {
           hops = same-hops e;
-          vertices = λ k m. sym (vertex-is t j k (omega (arith, same-hops e)) (omega arith)) ∙ ap (λ (p : Path). getD p k 0) e ∙ vertex k m;
+          vertices = λ k m. sym (vertex-is t j k (omega (arith, same-hops e)) (omega arith)) ∙ ap
+              (λ (p : Path). getD p k 0) e ∙ vertex k m;
         }
 
     same-path : SamePath t j i → pathAt t j ≡ pathAt t i
@@ -354,8 +359,10 @@ module _ (t : List ℕ) (i : ℕ) (h : i < records t) (small : hopsByte t i ≤ 
   says-11 =
       let test : ℕ → Bool = λ j. same (pathAt t j) (pathAt t i) in
       record {
-        keeps = λ e. keeps-11 t i (λ j l s. differs (pathAt t j) (pathAt t i) (none-below test i e j l) (same-path j (omega arith) s));
-        fails = λ r. all-fail test i (λ j l. differ (pathAt t j) (pathAt t i) (λ e. r .path refl j l (path-same j (omega arith) e)));
+        keeps = λ e. keeps-11 t i (λ j l s. differs (pathAt t j) (pathAt t i) (none-below test i e j l)
+            (same-path j (omega arith) s));
+        fails = λ r. all-fail test i (λ j l. differ (pathAt t j) (pathAt t i)
+            (λ e. r .path refl j l (path-same j (omega arith) e)));
       }
 
 -- a walk through the rules, with the page's numbers in order: none is broken, or rule n is the first that is

@@ -1,5 +1,5 @@
--- Exactness of the run's numbers: the last change is exactly the greatest step that changed a choice, and the ups and downs are exactly the
--- steps after which their listener stands higher and lower.
+-- Exactness of the run's numbers: the last change is exactly the greatest step that changed a choice, and the ups and
+-- downs are exactly the steps after which their listener stands higher and lower.
 use mathlib.Core.Path.{_≡_, refl, sym, ap, _∙_}
 use mathlib.Core.Logic.{_≢_, _↔_}
 use mathlib.Core.Bool.{Bool, true, false}
@@ -106,7 +106,8 @@ module _ (paths : ℕ → List Path) (heard : List ℕ) (s : List Pair) where
   unfolding run
   tally-next k h =
       let pairs = listeningOffsets paths in
-      ap (λ (n : ℕ). run paths heard (take n s)) (sym (add-one k)) ∙ fold-more (activated paths pairs) (begun heard) s k noPair h
+      ap (λ (n : ℕ). run paths heard (take n s)) (sym (add-one k)) ∙ fold-more (activated paths pairs)
+      (begun heard) s k noPair h
 
   state-none : stateAfter paths heard s 0 ≡ heard
   unfolding begun

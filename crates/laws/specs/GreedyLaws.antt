@@ -1,4 +1,5 @@
--- Laws of the greedy stages: what a stage keeps and adds, how a vertex came to be settled, which stages count, and when each vertex settled.
+-- Laws of the greedy stages: what a stage keeps and adds, how a vertex came to be settled, which stages count, and when
+-- each vertex settled.
 use mathlib.Core.Path.{_≡_, refl, sym, ap, _∙_, fun-ext}
 use mathlib.Core.Logic.{_≢_, _⊎_, inl, inr, ⊎-map}
 use mathlib.Core.Bool.{Bool, true, false, not}
@@ -231,7 +232,8 @@ module _ (paths : ℕ → List Path) (present : ℕ → Bool) where
         by-test (holds k)
         (λ q. rw (q, stagesFrom, firstFrom) (omega arith))
         (λ q. rw (q, stagesFrom, firstFrom)
-        (one-on k _ ∙ stages-from n (suc k) ∙ ap (λ (d : ℕ). elim (firstFrom holds (suc k) n) [ none ↦ d | some s ↦ s ]) (sym (one-on k n))))
+        (one-on k _ ∙ stages-from n (suc k) ∙ ap (λ (d : ℕ). elim (firstFrom holds (suc k) n) [ none ↦ d | some s ↦ s ])
+        (sym (one-on k n))))
 
     until-first : stagesUntil paths present test ≡ elim (firstFrom holds 0 64) [ none ↦ 64 | some s ↦ s ]
     unfolding stagesUntil settledList
@@ -338,7 +340,8 @@ module _ (paths : ℕ → List Path) (present : ℕ → Bool) where
   enters-counted k v p h e f =
       by-equal k (stageCount paths present)
       (λ q. absurd (none≢some (rw q at e)
-      (sym (settled-end 1 v) ∙ ap (λ (n : ℕ). settled paths present n v) (let z : stageCount paths present + 1 ≡ suc k = omega arith in z) ∙ f)))
+      (sym (settled-end 1 v) ∙ ap (λ (n : ℕ). settled paths present n v)
+      (let z : stageCount paths present + 1 ≡ suc k = omega arith in z) ∙ f)))
       (λ q. omega arith)
 
   -- the stage at which a vertex settled

@@ -89,8 +89,10 @@ module _ (paths : ℕ → List Path) where
   unfolding bestGiven
   choice-spoken heard u =
       by-equal u 0
-      (λ q. rw (q, choice-destination heard, speaks-destination) (inr (record { place = 0; under = omega arith; there = refl })))
-      (λ q. rw (choice-other heard u q, speaks-other u q, bestGiven) (first-among (extends (lastHeard paths heard u)) (paths u)))
+      (λ q. rw (q, choice-destination heard, speaks-destination)
+      (inr (record { place = 0; under = omega arith; there = refl })))
+      (λ q. rw (choice-other heard u q, speaks-other u q, bestGiven)
+      (first-among (extends (lastHeard paths heard u)) (paths u)))
 
   -- what v last heard from u stands at 64v+u, where u is a vertex
   pub heard-in : (heard : List ℕ) (v u : ℕ)
@@ -130,7 +132,8 @@ module _ (paths : ℕ → List Path) where
     unfolding offsetOf
     heard-new e l s =
         heard-in (step paths heard p) (p .listener) (p .speaker) s
-        ∙ rw (step-here (omega arith)) (byte-tells (p .speaker) (choice paths heard (p .speaker)) (choice-spoken heard (p .speaker)))
+        ∙ rw (step-here (omega arith)) (byte-tells (p .speaker) (choice paths heard (p .speaker))
+        (choice-spoken heard (p .speaker)))
 
     -- what any other pair last heard is as before
     pub heard-kept : p .speaker < 64
@@ -179,7 +182,8 @@ module _ (paths : ℕ → List Path) where
       → badByte paths k b ≡ false
   unfolding badByte badAt listensAt
   byte-good k b l h =
-      by-test (eqb b 0) (λ q. rw (q, badByte, badAt)) (λ q. rw (q, badByte, badAt, l) (le-ltb (length (speaks paths (k % 64))) b h))
+      by-test (eqb b 0) (λ q. rw (q, badByte, badAt))
+      (λ q. rw (q, badByte, badAt, l) (le-ltb (length (speaks paths (k % 64))) b h))
 
   -- and nowhere else
   pub byte-fits : (k b : ℕ)

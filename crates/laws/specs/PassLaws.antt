@@ -114,7 +114,9 @@ module _ {t : List ℕ} {i : ℕ} {slots : List (List ℕ)} {used : List ℕ} (s
         let usedBy : ℕ → ℕ → ℕ = λ n w. min (length (owned t n w)) 16 in
         let row : getD slots v [] ≡ padded 16 65535 (owned t i v) = rw (s .filled) (tabulate-at (slotsAt i) 64 v [] small) in
         record {
-          filled = rw (row, s .filled) (tabulate-set (slotsAt i) (slotsAt (i + 1)) 64 v (set (padded 16 65535 (owned t i v)) k i)
+          filled =
+              rw (row, s .filled) (tabulate-set (slotsAt i) (slotsAt (i + 1)) 64 v
+              (set (padded 16 65535 (owned t i v)) k i)
               (λ l. ap (padded 16 65535) mine-more ∙ sym (padded-more 65535 16 (owned t i v) i k here))
               (λ w l f. ap (padded 16 65535) (sym (others w f))));
           counted = rw (s .counted) (tabulate-set (usedBy i) (usedBy (i + 1)) 64 v (k + 1)
@@ -151,7 +153,8 @@ module _ (t : List ℕ) (i : ℕ) (counts : List ℕ) (come : counts ≡ ownedCo
     pub counts-more : set counts v (getD counts v 0 + 1) ≡ ownedCounts t (i + 1)
     unfolding ownedCounts
     counts-more =
-        rw (counts-at, come) (tabulate-set (λ w. length (owned t i w)) (λ w. length (owned t (i + 1) w)) 64 v (length (owned t i v) + 1)
+        rw (counts-at, come) (tabulate-set (λ w. length (owned t i w)) (λ w. length (owned t (i + 1) w)) 64 v
+        (length (owned t i v) + 1)
         (λ l. ap length (owned-in t i v (sym mine)) ∙ length-append (owned t i v) (i ∷ []))
         (λ w l f. ap length (sym (owned-out t i w (λ e. f (sym e ∙ sym mine))))))
 

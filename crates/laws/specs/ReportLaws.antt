@@ -78,8 +78,10 @@ module _ (paths : ℕ → List Path) (isPresent : ℕ → Bool) (shaped : Shaped
   counts =
       let done : ℕ → Bool = λ v. isSettled (final paths isPresent v) in
       let all : ℕ → Bool = λ v. not (eqb v 0) && isPresent v in
-      rw (count-ext (λ v. not (eqb v 0) && done v) (λ v. all v && done v) 64 (λ v h. and-second (not (eqb v 0)) (isPresent v) _ (here v)))
-      (rw (count-ext (isStuck paths isPresent) (λ v. all v && not (done v)) 64 (λ v h. and-first (not (eqb v 0)) (isPresent v) _ (other v)))
+      rw (count-ext (λ v. not (eqb v 0) && done v) (λ v. all v && done v) 64
+      (λ v h. and-second (not (eqb v 0)) (isPresent v) _ (here v)))
+      (rw (count-ext (isStuck paths isPresent) (λ v. all v && not (done v)) 64
+      (λ v h. and-first (not (eqb v 0)) (isPresent v) _ (other v)))
       (count-parts all done 64))
     where
       here : (v : ℕ) → isSettled (final paths isPresent v) ≡ true → isPresent v ≡ true
@@ -101,7 +103,8 @@ pub report-counts : (t : List ℕ)
 unfolding report
 report-counts t shaped = counts (pathsOf t) (present t) shaped
 
--- where some vertex is stuck the report has a ring, and where none is it has none: the verdict tells the two apart by the ring's length
+-- where some vertex is stuck the report has a ring, and where none is it has none: the verdict tells the two apart by
+-- the ring's length
 pub report-ring : (t : List ℕ)
     → Shaped (pathsOf t) (present t)
     → (v : ℕ)

@@ -163,7 +163,8 @@ module _ (next : ℕ → ℕ) (n j v : ℕ) (h : j < n) (back : after next n v �
   turned-way a =
       let p = parted next n j v h a in
       let z : n - j + j ≡ n = omega arith in
-      let on = tabulate-ext (λ k. after next k v) (λ k. after next (n - j + k) (after next j v)) j (λ k l. sym (round-again k)) in
+      let on = tabulate-ext (λ k. after next k v) (λ k. after next (n - j + k) (after next j v)) j
+      (λ k l. sym (round-again k)) in
       rw (p .0, p .1, on, ← tabulate-add (λ k. after next k (after next j v)) (n - j) j, z)
 
 -- What is followed: from stuck to stuck, to another, and never to 0.
@@ -350,7 +351,8 @@ module _ (stuck : ℕ → Bool) (next : ℕ → ℕ) (w : Following stuck next) 
 
     low-place : (j : ℕ) × (j < c .size) × (after next j (c .start) ≡ lowestOf r)
     low-place =
-        tabulate-place (λ k. after next k (c .start)) (c .size) (lowestOf r) (ap (elem (lowestOf r)) (sym (c .is)) ∙ low-found .passes)
+        tabulate-place (λ k. after next k (c .start)) (c .size) (lowestOf r)
+        (ap (elem (lowestOf r)) (sym (c .is)) ∙ low-found .passes)
 
     turned-ring : Ring stuck next (turned r)
     unfolding turned-cycle

@@ -1,5 +1,5 @@
--- Laws of the rounds: a schedule contains as many as the run counts, and no more where there is a listening pair; and how rounds go with
--- schedules one after the other.
+-- Laws of the rounds: a schedule contains as many as the run counts, and no more where there is a listening pair; and
+-- how rounds go with schedules one after the other.
 use Prim.{tt}
 use Prim.Native.Nat.{ℕ, zero, suc, _+_, _-_, _<_, _≤_}
 use mathlib.Core.Path.{_≡_, refl, sym, ap, _∙_, subst}
@@ -77,7 +77,8 @@ all-behind : (since : List ℕ) (s : List Pair) (p : Pair)
     → AllIn (offsetOf p ∷ since) (map offsetOf (s ++ p ∷ []))
 all-behind since s p f k e =
     more-behind k s p
-    ∙ ⊎-elim (or-right (elem k (map offsetOf s)) (eqb k (offsetOf p))) (λ q. or-left (elem k (map offsetOf s)) (eqb k (offsetOf p)) (f k q))
+    ∙ ⊎-elim (or-right (elem k (map offsetOf s)) (eqb k (offsetOf p)))
+    (λ q. or-left (elem k (map offsetOf s)) (eqb k (offsetOf p)) (f k q))
     (or-cases (eqb k (offsetOf p)) (elem k since) (sym (elem-cons k (offsetOf p) since) ∙ e))
 
 all-before : (since : List ℕ) (s : List Pair) (p : Pair)
@@ -277,7 +278,12 @@ module _ (pairs : List ℕ) where
         → y .rounds < tallied (tallied y stretch) rest .rounds
     tally-closes y stretch rest some f e =
         let w = tally-waiting y stretch e in
-        omega (arith, waiting-closes (y .rounds) stretch _ _ some f w, tally-waiting (tallied y stretch) rest (w .notDue) .least)
+        omega (
+          arith,
+          waiting-closes (y .rounds) stretch _ _ some f w,
+          tally-waiting (tallied y stretch) rest
+              (w .notDue) .least,
+        )
 
     -- all rounds that a schedule contains are counted, where there is a pair
     contained-counted : pairs ≢ []
@@ -291,7 +297,8 @@ module _ (pairs : List ℕ) where
         let y = tallied (begun heard) (l .before) in
         let notDue = tally-waiting (begun heard) (l .before) (closes-not-yet pairs) .notDue in
         let parts : tallied (begun heard) s ≡ tallied (tallied y (l .stretch)) (l .after) =
-        ap (tallied (begun heard)) (l .parts) ∙ fold-append (activated paths pairs) (begun heard) (l .before ++ l .stretch) (l .after)
+        ap (tallied (begun heard)) (l .parts) ∙ fold-append (activated paths pairs) (begun heard)
+        (l .before ++ l .stretch) (l .after)
         ∙ ap (λ y. tallied y (l .after)) (fold-append (activated paths pairs) (begun heard) (l .before) (l .stretch)) in
         rw parts (omega (
           arith,
@@ -319,8 +326,8 @@ module _ (paths : ℕ → List Path) (heard : List ℕ) (s : List Pair) where
   unfolding run begun activated closes more
   rounds-none e = rw e (fold-keeps (activated paths []) (λ y. y .rounds ≡ 0) (λ y p h. h) (begun heard) s refl)
 
--- Two runs one after the other, each counting from its own start, count no more rounds than one run over the whole: a round that begins
--- in the first and ends in the second is counted by the whole alone.
+-- Two runs one after the other, each counting from its own start, count no more rounds than one run over the whole: a
+-- round that begins in the first and ends in the second is counted by the whole alone.
 pub rounds-add : (paths : ℕ → List Path) (heard later : List ℕ) (s t : List Pair)
     → run paths heard s .rounds + run paths later t .rounds ≤ run paths heard (s ++ t) .rounds
 rounds-add paths heard later s t = go (listeningOffsets paths) refl
@@ -330,8 +337,10 @@ rounds-add paths heard later s t = go (listeningOffsets paths) refl
         → run paths heard s .rounds + run paths later t .rounds ≤ run paths heard (s ++ t) .rounds
     go [] e = omega (arith, rounds-none paths heard s e, rounds-none paths later t e)
     go (k ∷ ks) e =
-        rounds-greatest paths heard (s ++ t) (λ z. omega (arith, ap length (sym e ∙ z))) (run paths heard s .rounds + run paths later t .rounds)
-        (contains-add (listeningOffsets paths) (run paths heard s .rounds) (run paths later t .rounds) s t (rounds-contained paths heard s)
+        rounds-greatest paths heard (s ++ t) (λ z. omega (arith, ap length (sym e ∙ z)))
+        (run paths heard s .rounds + run paths later t .rounds)
+        (contains-add (listeningOffsets paths) (run paths heard s .rounds) (run paths later t .rounds) s t
+        (rounds-contained paths heard s)
         (rounds-contained paths later t))
 
 -- A schedule with n rounds, cut in two, has at least n - 1 in its parts: the cut breaks one round at most.
@@ -354,7 +363,8 @@ contains-cut pairs (suc n) s t c =
     record {
       early = n;
       late = 0;
-      front = subst (Contains pairs n) (sym (f .0)) (contains-behind pairs n (l .before) (drop (length (l .before)) s) (l .earlier));
+      front = subst (Contains pairs n) (sym (f .0))
+          (contains-behind pairs n (l .before) (drop (length (l .before)) s) (l .earlier));
       back = contains-none pairs t;
       enough = omega arith;
     })
@@ -382,7 +392,8 @@ rounds-lost paths heard later s t = go (listeningOffsets paths) refl
     go [] e = omega (arith, rounds-none paths heard (s ++ t) e)
     go (k ∷ ks) e =
         let nonempty : listeningOffsets paths ≢ [] = λ z. omega (arith, ap length (sym e ∙ z)) in
-        let c = contains-cut (listeningOffsets paths) (run paths heard (s ++ t) .rounds) s t (rounds-contained paths heard (s ++ t)) in
+        let c = contains-cut (listeningOffsets paths) (run paths heard (s ++ t) .rounds) s t
+        (rounds-contained paths heard (s ++ t)) in
         omega (
           arith,
           c .enough,

@@ -96,7 +96,8 @@ sums-on a b c i m n e v =
     (λ q. rw q (getD-set-same b i new (pos 0) h ∙ ap (λ x. x +ℤ m) (e i) ∙ +ℤ-assoc (getD a i (pos 0)) (getD c i (pos 0)) m
     ∙ sym (ap (λ x. getD a i (pos 0) +ℤ x) (getD-set-same c i late (pos 0) (omega arith)))))
     (λ q. getD-set-other b i v new (pos 0) q ∙ e v ∙ sym (ap over (getD-set-other c i v late (pos 0) q))))
-    (λ h. ap (λ l. getD l v (pos 0)) (set-out b i new h) ∙ e v ∙ sym (ap (λ l. over (getD l v (pos 0))) (set-out c i late (omega arith))))
+    (λ h. ap (λ l. getD l v (pos 0)) (set-out b i new h) ∙ e v ∙ sym
+    (ap (λ l. over (getD l v (pos 0))) (set-out c i late (omega arith))))
 
 -- The tally y is x, and z counted on from there.
 pub record Joined (x z y : Tally) : Type 0 where

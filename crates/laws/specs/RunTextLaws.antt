@@ -51,7 +51,8 @@ module _ (isPresent : ℕ → Bool) (line : ℕ → List ℕ) where
       → vertexLines isPresent line v ≡ vertexLines isPresent line (v + 1)
   vertices-absent v h =
       let here : lineAt v ≡ [] = rw (h, lineAt) in
-      sym (append-nil (vertexLines isPresent line v)) ∙ ap (λ (k : List ℕ). vertexLines isPresent line v ++ k) (sym here) ∙ vertices-more v
+      sym (append-nil (vertexLines isPresent line v)) ∙ ap (λ (k : List ℕ). vertexLines isPresent line v ++ k)
+      (sym here) ∙ vertices-more v
 
 -- lines that agree
 pub vertices-ext : (isPresent : ℕ → Bool) (f g : ℕ → List ℕ) (n : ℕ)
@@ -71,7 +72,15 @@ signed-most (negsuc n) = omega (arith, decimal-most (suc n))
 run-line-most : (ns : List ℕ) → length (runLine ns) ≤ 87
 unfolding runLine labelled codes
 run-line-most ns =
-    simp length-append (omega (arith, decimal-most (getD ns 0 0), decimal-most (getD ns 1 0), decimal-most (getD ns 2 0), decimal-most (getD ns 3 0), decimal-most (getD ns 4 0)))
+    simp length-append (omega (
+      arith,
+      decimal-most (getD ns 0 0),
+      decimal-most (getD ns 1 0),
+      decimal-most
+          (getD ns 2 0),
+      decimal-most (getD ns 3 0),
+      decimal-most (getD ns 4 0),
+    ))
 
 vertex-most : (v : ℕ) (sum : ℤ) (rank : ℕ) (path : Path)
     → v < 64
@@ -108,7 +117,8 @@ module _ (t : List ℕ) (e : refusal t ≡ none) where
       blocks-most (lineAt (present t) (ranLine t y)) 79 63
       (λ k. by-test (present t (k + 1))
       (λ q. rw (q, lineAt)
-      (vertex-most (k + 1) _ _ (choice (pathsOf t) (y .heard) (k + 1)) (shaped t e .range (k + 1) q) (choice-short (y .heard) (k + 1) (λ z. omega arith))))
+      (vertex-most (k + 1) _ _ (choice (pathsOf t) (y .heard) (k + 1)) (shaped t e .range (k + 1) q)
+      (choice-short (y .heard) (k + 1) (λ z. omega arith))))
       (λ q. rw (q, lineAt) (omega arith)))
 
 -- the text fits 8,192 bytes
@@ -130,4 +140,5 @@ run-text-fits t heard s sums h l = answer-fits _ _ _ (λ e. lines-most t (accept
 pub ran-text-fits : (t s : List ℕ) → length (ranText t s) ≤ 8192
 unfolding ranText
 ran-text-fits t s =
-    run-text-fits t (replicate 4096 0) s (replicate 64 (pos 0)) (length-replicate {A = ℕ} 4096 0) (length-replicate {A = ℤ} 64 (pos 0))
+    run-text-fits t (replicate 4096 0) s (replicate 64 (pos 0)) (length-replicate {A =
+    ℕ} 4096 0) (length-replicate {A = ℤ} 64 (pos 0))

@@ -32,7 +32,8 @@ pub slot-holds : (t : List ℕ) (n v k : ℕ)
     → getD (getD (slotsOf t n) v []) k 65535 ≡ getD (owned t n v) k 65535
 unfolding slotsOf
 slot-holds t n v k h l =
-    ap (λ (row : List ℕ). getD row k 65535) (tabulate-at (λ w. padded 16 65535 (owned t n w)) 64 v [] h) ∙ padded-at 65535 16 (owned t n v) k l
+    ap (λ (row : List ℕ). getD row k 65535) (tabulate-at (λ w. padded 16 65535 (owned t n w)) 64 v [] h)
+    ∙ padded-at 65535 16 (owned t n v) k l
 
 module _ (t : List ℕ) (e : refusal t ≡ none) (i : ℕ) (h : i < records t) where
   -- the rank of a path among its owner's is the record's rank byte

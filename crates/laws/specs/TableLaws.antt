@@ -196,7 +196,8 @@ module _ (t : List ℕ) (n : ℕ) (orderly : Orderly t n) where
             least = omega arith;
             most = rank-kept (suc j) h .0;
             fits = omega (arith, b .fits);
-            inside = λ i lo hi. by-equal i (suc j) (λ q. ap (ownerAt t) q) (λ q. b .inside i (omega arith) (omega arith) ∙ sym o);
+            inside = λ i lo hi. by-equal i (suc j) (λ q. ap (ownerAt t) q)
+                (λ q. b .inside i (omega arith) (omega arith) ∙ sym o);
             before = λ i lo. omega (arith, b .before i (omega arith));
           }
 
@@ -265,7 +266,8 @@ module _ (t : List ℕ) (i : ℕ) {x y : ℕ} (later : i ≡ 0 → ⊥) (here : 
 
   pub rank-due-same : {n : ℕ} → x ≡ y → n ≡ rankAt t (i - 1) → n + 1 ≡ rankDue t i
   rank-due-same {n} e r =
-      rw (r, add-one) (sym (ap (rankDue t) one-back ∙ due-same t (i - 1) (sym (ap (ownerAt t) one-back) ∙ sym here ∙ e ∙ before)))
+      rw (r, add-one) (sym (ap (rankDue t) one-back ∙ due-same t (i - 1)
+      (sym (ap (ownerAt t) one-back) ∙ sym here ∙ e ∙ before)))
 
 -- the test of 8, from what was read of the record
 pub last-seen : {r R : List ℕ} {h b : ℕ} {x : Bool}

@@ -1,5 +1,5 @@
--- Laws of the printed text: what the digits of a number say, how long the text is at most, and that the check's answer prints as the
--- table's text.
+-- Laws of the printed text: what the digits of a number say, how long the text is at most, and that the check's answer
+-- prints as the table's text.
 use mathlib.Core.Path.{_≡_, refl, sym, ap, _∙_}
 use mathlib.Core.Logic.{_≢_}
 use mathlib.Core.Bool.{true, false}
@@ -49,7 +49,13 @@ digits-most zero n = omega (arith, ap length (digits-none n))
 digits-most (suc k) n =
     by-equal (n / 10) 0
     (λ e. omega (arith, ap length (digits-one k n e)))
-    (λ e. omega (arith, ap length (digits-more k n e), length-append (digitsIn k (n / 10)) ((48 + n % 10) ∷ []), digits-most k (n / 10)))
+    (λ e. omega (
+      arith,
+      ap length (digits-more k n e),
+      length-append (digitsIn k (n / 10))
+          ((48 + n % 10) ∷ []),
+      digits-most k (n / 10),
+    ))
 
 -- the value of digits, the first one the highest
 unfoldable pub valueOf : List ℕ → ℕ
@@ -100,7 +106,13 @@ digits-few (suc k) zero n h = let e : n / 10 ≡ 0 = omega (arith, pow-succ' 10 
 digits-few (suc k) (suc j) n h =
     by-equal (n / 10) 0
     (λ e. omega (arith, ap length (digits-one k n e)))
-    (λ e. omega (arith, ap length (digits-more k n e), length-append (digitsIn k (n / 10)) ((48 + n % 10) ∷ []), digits-few k j (n / 10) (less-digits (suc j) n h)))
+    (λ e. omega (
+      arith,
+      ap length (digits-more k n e),
+      length-append (digitsIn k (n / 10))
+          ((48 + n % 10) ∷ []),
+      digits-few k j (n / 10) (less-digits (suc j) n h),
+    ))
 
 pub decimal-few : (n : ℕ) → n < 100 → length (decimal n) ≤ 2
 unfolding decimal
@@ -117,7 +129,13 @@ pub spaced-few : (ns : List ℕ) → ((k : ℕ) → k < length ns → getD ns k 
 unfolding spaced labelled codes
 spaced-few [] h = omega arith
 spaced-few (n ∷ ns) h =
-    omega (arith, length-append (decimal n) (spaced ns), decimal-few n (h 0 (omega arith)), spaced-few ns (λ k l. h (suc k) (omega arith)))
+    omega (
+      arith,
+      length-append (decimal n) (spaced ns),
+      decimal-few n (h 0 (omega arith)),
+      spaced-few ns
+          (λ k l. h (suc k) (omega arith)),
+    )
 
 spaced-append : (ns : List ℕ) (n : ℕ) → spaced (ns ++ n ∷ []) ≡ spaced ns ++ labelled " " n
 unfolding spaced
@@ -230,7 +248,8 @@ unfolding labelled codes
 place-most n k =
     by-test (outside 4 11 n)
     (λ q. by-equal n 12 (λ e. rw (← (place-offset n k e)) (omega (arith, decimal-most k)))
-    (λ f. by-equal n 14 (λ e. rw (← (place-pair n k e)) (omega (arith, decimal-most k))) (λ g. rw (← (place-none n k q f g)) (omega arith))))
+    (λ f. by-equal n 14 (λ e. rw (← (place-pair n k e)) (omega (arith, decimal-most k)))
+    (λ g. rw (← (place-none n k q f g)) (omega arith))))
     (λ q. rw (← (place-record n k q)) (omega (arith, decimal-most k)))
 
 pub refused-most : (n k : ℕ) → length (refusedLine n k) ≤ 37
@@ -248,12 +267,20 @@ route-most rank m path h =
 verdict-most : (name numbers : List ℕ) → length name ≤ 8 → length (verdictLine name numbers) ≤ 90
 unfolding verdictLine labelled codes
 verdict-most name numbers h =
-    simp length-append (omega (arith, decimal-most (getD numbers 1 0), decimal-most (getD numbers 2 0), decimal-most (getD numbers 3 0), decimal-most (getD numbers 4 0)))
+    simp length-append (omega (
+      arith,
+      decimal-most (getD numbers 1 0),
+      decimal-most (getD numbers 2 0),
+      decimal-most
+          (getD numbers 3 0),
+      decimal-most (getD numbers 4 0),
+    ))
 
 stage-most : (row : List ℕ) → length (stageWords row) ≤ 17
 unfolding stageWords labelled codes
 stage-most row =
-    by-test (eqb (getD row 0 0) 255) (λ q. rw (q, stageWords) (omega arith)) (λ q. rw (q, stageWords) (omega (arith, decimal-most (getD row 0 0))))
+    by-test (eqb (getD row 0 0) 255) (λ q. rw (q, stageWords) (omega arith))
+    (λ q. rw (q, stageWords) (omega (arith, decimal-most (getD row 0 0))))
 
 path-most : (row : List ℕ) → length row ≤ 16 → length (spaced (rowPath row)) ≤ 143
 unfolding rowPath
@@ -269,7 +296,8 @@ unfolding rowLine codes
 row-most v rows =
     let r = rowAt rows v in
     by-test (eqb (getD r 0 0) 254) (λ q. rw (q, rowLine) (omega arith))
-    (λ q. rw (q, rowLine) (simp length-append (omega (arith, decimal-most v, stage-most r, route-most (getD r 1 0) 143 (rowPath r) (path-most r (row-short v rows))))))
+    (λ q. rw (q, rowLine) (simp length-append (omega
+    (arith, decimal-most v, stage-most r, route-most (getD r 1 0) 143 (rowPath r) (path-most r (row-short v rows))))))
 
 rows-most : (rows : List ℕ) → length (rowLines rows 63) ≤ 12096
 unfolding rowLines
@@ -285,7 +313,13 @@ pub text-fits : (v : Verdict) (numbers rows ring : List ℕ)
     → length (textOf v numbers rows ring) ≤ 16384
 unfolding textOf codes
 text-fits complete numbers rows ring h =
-    omega (arith, length-append (verdictLine (codes "complete") numbers) (rowLines rows 63), verdict-most (codes "complete") numbers (omega arith), rows-most rows)
+    omega (
+      arith,
+      length-append (verdictLine (codes "complete") numbers) (rowLines rows 63),
+      verdict-most
+          (codes "complete") numbers (omega arith),
+      rows-most rows,
+    )
 text-fits (stuck n) numbers rows ring h =
     simp length-append (omega (arith, verdict-most (codes "stuck") numbers (omega arith), rows-most rows, ring-most n ring h))
 text-fits (refused n k) numbers rows ring h = omega (arith, refused-most n k)

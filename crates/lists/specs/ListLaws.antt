@@ -1,4 +1,5 @@
--- Laws of the elements of a list: its fronts, whether any passes, the first that does, which numbers stand in it, which twice, and what same lists are.
+-- Laws of the elements of a list: its fronts, whether any passes, the first that does, which numbers stand in it, which
+-- twice, and what same lists are.
 use mathlib.Core.Path.{_≡_, refl, sym, ap, _∙_}
 use mathlib.Core.Logic.{⊎-elim}
 use mathlib.Core.Bool.{Bool, true, false, _||_, or-assoc, or-false}
@@ -257,7 +258,8 @@ once-more (y ∷ l) x t e =
     let s = or-none (elem y l) (twice l) t in
     let f = or-none (eqb x y) (elem x l) (sym (elem-cons x y l) ∙ e) in
     neither (elem y (l ++ x ∷ [])) (twice (l ++ x ∷ []))
-    (elem-more y l x ∙ neither (elem y l) (eqb y x) (s .0) (ne-eqb y x (λ q. eqb-false x y (f .0) (sym q)))) (once-more l x (s .1) (f .1))
+    (elem-more y l x ∙ neither (elem y l) (eqb y x) (s .0) (ne-eqb y x (λ q. eqb-false x y (f .0) (sym q))))
+    (once-more l x (s .1) (f .1))
 
 -- a walk that has come to i meets a number that it met before, or one that is new
 

@@ -1,4 +1,5 @@
-// What the entries for C do not show, for tests outside Rattle: the reader, the facts and the texts, thin over the proved crates.
+// What the entries for C do not show, for tests outside Rattle: the reader, the facts and the texts, thin over the
+// proved crates.
 ghost use mathlib.Core.Path.{_≡_};
 ghost use Rattle.rules.specs.Table.{longest, present, pathsOf, listensAt};
 ghost use Rattle.rules.specs.Refusals.{refusal};

@@ -105,7 +105,8 @@ pub(crate) fn rank_bad(table: &[u8], i: usize) -> bool
     rank as u16 != rank_due(table, i)
 }
 
-// Record i as a table of its own: its 16 bytes are known to be there, so that the compiler drops the tests for each field.
+// Record i as a table of its own: its 16 bytes are known to be there, so that the compiler drops the tests for each
+// field.
 fn alone(table: &[u8], i: usize) -> &[u8]
     requires { ⌜ i < records (now table) ⌝ }
     ensures { λ r. ⌜ now r ≡ recordAt (now (table .entry)) i ⌝ }

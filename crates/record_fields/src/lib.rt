@@ -1,4 +1,5 @@
-// The fields of a record, for any bytes and any record number: past the table's end a record is empty, and its fields are 0.
+// The fields of a record, for any bytes and any record number: past the table's end a record is empty, and its fields
+// are 0.
 ghost use mathlib.Core.Path.{_≡_};
 ghost use Rattle.rules.specs.Table.{recordAt, rankAt, hopsAt, pathAt, ownerAt, nextHop};
 use slices::at_most;

@@ -1,4 +1,5 @@
-// The printed text of a run's answer, for any answer, choices and sums: a line of numbers, then one for each present vertex.
+// The printed text of a run's answer, for any answer, choices and sums: a line of numbers, then one for each present
+// vertex.
 ghost use mathlib.Core.Path.{_≡_};
 ghost use lib.ListN.{getD};
 ghost use lib.IntN.{pos};

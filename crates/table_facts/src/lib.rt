@@ -1,4 +1,5 @@
-// What the check and the machine need of a table, for any bytes: the longest hops, who is present, who listens, who speaks of how many paths, the slots.
+// What the check and the machine need of a table, for any bytes: the longest hops, who is present, who listens, who
+// speaks of how many paths, the slots.
 ghost use mathlib.Core.Path.{_≡_};
 ghost use Prim.Native.Nat.{min};
 ghost use lib.ListN.{length};

@@ -74,4 +74,5 @@ pub written-part : {n : ℕ} {before after : List ℕ} {from : ℕ}
     → take (size - from) (drop from after) ≡ digitsIn size n
 written-part {n} {before} {after} {from} w size e l =
     let z : size ≡ length after = e ∙ sym l in
-    ap (λ (k : ℕ). take (k - from) (drop from after)) z ∙ part-to-end after from ∙ w .digits ∙ ap (λ (k : ℕ). digitsIn k n) (sym e)
+    ap (λ (k : ℕ). take (k - from) (drop from after)) z ∙ part-to-end after from ∙ w .digits ∙ ap
+    (λ (k : ℕ). digitsIn k n) (sym e)

@@ -1,4 +1,5 @@
--- Laws of laying: one piece behind the other, what a loop that lays byte by byte has laid, and that a piece which fits stands there.
+-- Laws of laying: one piece behind the other, what a loop that lays byte by byte has laid, and that a piece which fits
+-- stands there.
 use mathlib.Core.Path.{_≡_, refl, sym, ap, _∙_}
 use mathlib.Core.List.{List, [], _∷_, _++_, append-assoc}
 use Prim.Native.Nat.{ℕ, zero, suc, _+_, _-_, _<_, _≤_, min}
@@ -57,7 +58,15 @@ pub laid-length : {at : ℕ} {piece before after : List ℕ} {next : ℕ}
     → length after ≡ length before
 laid-length {at} {piece} {before} {after} {next} l =
     ap length (l .stands)
-    ∙ omega (arith, length-append (take at before) (overlaid piece (drop at before)), length-take at before, length-drop at before, overlaid-length piece (drop at before))
+    ∙ omega (
+      arith,
+      length-append (take at before)
+          (overlaid piece (drop at before)),
+      length-take at before,
+      length-drop at before,
+      overlaid-length piece
+          (drop at before),
+    )
 
 -- laying a, then b behind it, is laying a and b
 pub laid-then : {at n m : ℕ} {a b before middle after : List ℕ}

@@ -1,5 +1,5 @@
-// Letters into a lent buffer, laid from a place on, as far as they fit: pieces, decimal numbers, and the words that every printed text
-// shares.
+// Letters into a lent buffer, laid from a place on, as far as they fit: pieces, decimal numbers, and the words that
+// every printed text shares.
 ghost use mathlib.Core.Path.{_≡_};
 ghost use mathlib.Core.List.{_++_};
 ghost use lib.IntN.{natAbs};

@@ -1,5 +1,5 @@
--- Assignments in which every path is its owner followed by the next hop's path: the stable ones agree with what is settled, and what is
--- settled, where nobody is stuck, is a stable one.
+-- Assignments in which every path is its owner followed by the next hop's path: the stable ones agree with what is
+-- settled, and what is settled, where nobody is stuck, is a stable one.
 use Prim.Native.Nat.{ℕ, zero, suc, _+_, _-_, _<_, _≤_}
 use mathlib.Core.Path.{_≡_, sym, ap, _∙_}
 use mathlib.Core.Logic.{_≢_, ⊎-elim}
@@ -147,7 +147,8 @@ module _ (paths : ℕ → List Path) (present : ℕ → Bool) (shaped : Shaped p
             → Stands (paths v) (assigned v) × (compatible (settled paths present (entry v z e .at)) (assigned v) ≡ true)
         taken v z e f =
             let r = entry v z e in
-            first-taken (compatible (settled paths present (r .at))) (paths v) (assigned v) f (sym (entered-best paths present r))
+            first-taken (compatible (settled paths present (r .at))) (paths v) (assigned v) f
+            (sym (entered-best paths present r))
 
         own : (v : ℕ) → v ≢ 0 → present v ≡ true → assigned v ≢ [] → Permitted present v (assigned v)
         own v z e f = stands-permitted paths present shaped v (assigned v) (taken v z e f .0)
@@ -158,6 +159,7 @@ module _ (paths : ℕ → List Path) (present : ℕ → Bool) (shaped : Shaped p
           destination = settled-chained .destination;
           others = λ v z e. let r = entry v z e in
               let S = settled paths present (r .at) in
-              sym (assigned-entering settled-chained S (settled-origin paths present (r .at)) (agrees-earlier (r .at) (r .before)) v (assigned v) (r .new)
+              sym (assigned-entering settled-chained S (settled-origin paths present (r .at))
+              (agrees-earlier (r .at) (r .before)) v (assigned v) (r .new)
               (r .judgement));
         }

@@ -124,10 +124,29 @@ table4Moment =
 unfoldable pub table4End : List Row
 table4End =
     record { pairs = 2 ∷ 1 ∷ 1 ∷ 2 ∷ []; selected = (1 ∷ 2 ∷ 4 ∷ 0 ∷ []) ∷ (2 ∷ 4 ∷ 0 ∷ []) ∷ (3 ∷ 0 ∷ []) ∷ (4 ∷ 2 ∷ 3 ∷ 0 ∷ []) ∷ [] }
-    ∷ record { pairs = 2 ∷ 4 ∷ []; selected = (1 ∷ 2 ∷ 4 ∷ 0 ∷ []) ∷ (2 ∷ 1 ∷ 0 ∷ []) ∷ (3 ∷ 0 ∷ []) ∷ (4 ∷ 2 ∷ 3 ∷ 0 ∷ []) ∷ [] }
-    ∷ record { pairs = 3 ∷ 2 ∷ []; selected = (1 ∷ 2 ∷ 4 ∷ 0 ∷ []) ∷ (2 ∷ 1 ∷ 0 ∷ []) ∷ (3 ∷ 2 ∷ 1 ∷ 0 ∷ []) ∷ (4 ∷ 2 ∷ 3 ∷ 0 ∷ []) ∷ [] }
-    ∷ record { pairs = 4 ∷ 3 ∷ []; selected = (1 ∷ 2 ∷ 4 ∷ 0 ∷ []) ∷ (2 ∷ 1 ∷ 0 ∷ []) ∷ (3 ∷ 2 ∷ 1 ∷ 0 ∷ []) ∷ (4 ∷ 2 ∷ 3 ∷ 0 ∷ []) ∷ [] }
-    ∷ record { pairs = 2 ∷ 1 ∷ 2 ∷ 3 ∷ 2 ∷ 4 ∷ []; selected = (1 ∷ 2 ∷ 4 ∷ 0 ∷ []) ∷ [] ∷ (3 ∷ 2 ∷ 1 ∷ 0 ∷ []) ∷ (4 ∷ 2 ∷ 3 ∷ 0 ∷ []) ∷ [] }
+    ∷ record {
+      pairs =
+          2 ∷ 4 ∷ [];
+      selected = (1 ∷ 2 ∷ 4 ∷ 0 ∷ []) ∷ (2 ∷ 1 ∷ 0 ∷ []) ∷ (3 ∷ 0 ∷ []) ∷ (4 ∷ 2 ∷ 3 ∷ 0 ∷ []) ∷ [];
+    }
+    ∷ record {
+      pairs =
+          3 ∷ 2 ∷ [];
+      selected =
+          (1 ∷ 2 ∷ 4 ∷ 0 ∷ []) ∷ (2 ∷ 1 ∷ 0 ∷ []) ∷ (3 ∷ 2 ∷ 1 ∷ 0 ∷ []) ∷ (4 ∷ 2 ∷ 3 ∷ 0 ∷ []) ∷ [];
+    }
+    ∷ record {
+      pairs =
+          4 ∷ 3 ∷ [];
+      selected =
+          (1 ∷ 2 ∷ 4 ∷ 0 ∷ []) ∷ (2 ∷ 1 ∷ 0 ∷ []) ∷ (3 ∷ 2 ∷ 1 ∷ 0 ∷ []) ∷ (4 ∷ 2 ∷ 3 ∷ 0 ∷ []) ∷ [];
+    }
+    ∷ record {
+      pairs =
+          2 ∷ 1 ∷ 2 ∷ 3 ∷ 2 ∷ 4 ∷ [];
+      selected =
+          (1 ∷ 2 ∷ 4 ∷ 0 ∷ []) ∷ [] ∷ (3 ∷ 2 ∷ 1 ∷ 0 ∷ []) ∷ (4 ∷ 2 ∷ 3 ∷ 0 ∷ []) ∷ [];
+    }
     ∷ record { pairs = 1 ∷ 2 ∷ 3 ∷ 2 ∷ 4 ∷ 2 ∷ []; selected = (1 ∷ 0 ∷ []) ∷ [] ∷ (3 ∷ 0 ∷ []) ∷ (4 ∷ 0 ∷ []) ∷ [] }
     ∷ []
 
@@ -161,7 +180,8 @@ badGadgetRounds =
 
 -- ours: row 3's pairs of Table 4 one after the other, 4 or 2 first
 unfoldable pub edgeFourFirst : Row
-edgeFourFirst = record { pairs = 4 ∷ 2 ∷ 2 ∷ 4 ∷ []; selected = (1 ∷ 0 ∷ []) ∷ (2 ∷ 3 ∷ 0 ∷ []) ∷ (3 ∷ 0 ∷ []) ∷ (4 ∷ 2 ∷ 3 ∷ 0 ∷ []) ∷ [] }
+edgeFourFirst =
+    record { pairs = 4 ∷ 2 ∷ 2 ∷ 4 ∷ []; selected = (1 ∷ 0 ∷ []) ∷ (2 ∷ 3 ∷ 0 ∷ []) ∷ (3 ∷ 0 ∷ []) ∷ (4 ∷ 2 ∷ 3 ∷ 0 ∷ []) ∷ [] }
 
 unfoldable pub edgeTwoFirst : Row
 edgeTwoFirst =

@@ -142,7 +142,8 @@ module _ (t : List ℕ) (n : ℕ) (routers : Routers t n) where
         routers-same (suc k) h ∙ stable .others (suc k) (λ z. omega arith) (router-present k h)
         ∙ best-same paths a b (suc k)
         (λ j l. let u = nextHop (getD (paths (suc k)) j []) in
-        let named = speaker-present paths (present t) (shaped t (routers .accepted)) (suc k) u (next-listens paths (suc k) j l) in
+        let named = speaker-present paths (present t) (shaped t (routers .accepted)) (suc k) u
+        (next-listens paths (suc k) j l) in
         sym (routers-same u (present-most u named)))
         in
         rw (← e) (ap not (same-refl (b (suc k)))))
@@ -173,7 +174,8 @@ untouched t heard e p q =
     let admitted = step-admitted t heard p q in
     let l = all-listen (pathsOf t) (p ∷ []) p (admitted .listening) 0 (omega arith) in
     let r = listening (pathsOf t) (present t) (shaped t (admitted .accepted)) (p .listener) (p .speaker) l in
-    let here = none-below (changesAt t heard) 4096 e (64 * p .listener + p .speaker) (omega (arith, r .listenerSmall, r .speakerSmall)) in
+    let here = none-below (changesAt t heard) 4096 e (64 * p .listener + p .speaker)
+    (omega (arith, r .listenerSmall, r .speakerSmall)) in
     rw (told-first (p .listener) (p .speaker) (r .speakerSmall), told-second (p .listener) (p .speaker) (r .speakerSmall))
     at (same-eq _ _ (not-false _ here))
 
@@ -204,7 +206,8 @@ is-storing t heard ps stores =
     let a = assigned ps in
     is-tabulate (storedByte t a) 0 4096 heard (stores .long)
     (λ k h. let z : 0 + k ≡ k = omega arith in
-    let found = first-in-none (λ j b. not (eqb b (storedByte t a j))) heard 0 0 (stores .same) k (omega (arith, stores .long)) in
+    let found = first-in-none (λ j b. not (eqb b (storedByte t a j))) heard 0 0 (stores .same) k
+    (omega (arith, stores .long)) in
     eqb-true (getD heard k 0) (storedByte t a k) (not-false _ (rw z at found)))
 
 -- and it rests where the paths are a stable state
@@ -227,7 +230,8 @@ module _ (paths : ℕ → List Path) (v u b c : ℕ) (small : v < 64) (smaller :
         → Crossed heard
     unfolding offsetOf
     step-crosses heard p r long now =
-        let kept : (k : ℕ) → k ≢ offsetOf p → getD heard k 0 ≡ getD (step paths heard p) k 0 = λ k d. sym (step-there paths heard p k d) in
+        let kept : (k : ℕ) → k ≢ offsetOf p → getD heard k 0 ≡ getD (step paths heard p) k 0 = λ k d. sym
+        (step-there paths heard p k d) in
         let new : byteFor paths (p .speaker) (choice paths heard (p .speaker)) ≡ getD (step paths heard p) (offsetOf p) 0 =
         sym (step-here paths heard p (omega (arith, r .listener, r .speaker, long)))
         in

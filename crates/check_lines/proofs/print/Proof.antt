@@ -50,7 +50,8 @@ returns-2 c =
     let lines = c .before .before .before .before .before .before in
     let first = lines .before .before .before .before in
     let told = first .before .before .before .before in
-    laid-as (laid-then (laid-then (first .put-verdict2 .ensures) (lines .put-rows2 .ensures)) (c .before .before .put-ring .ensures))
+    laid-as (laid-then (laid-then (first .put-verdict2 .ensures) (lines .put-rows2 .ensures))
+    (c .before .before .put-ring .ensures))
     (stuck-text _ _ _ _ _ (told .verdict .given .1))
 
 same-length-2 : tie.Need-same-length-2

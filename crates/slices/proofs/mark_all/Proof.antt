@@ -11,7 +11,8 @@ use Rattle.slices.proofs.mark_all.Statement.{statement}
 use Rattle.slices.proofs.mark_all.Tie as tie
 
 abbrev Inv-loop : tie.InvT-loop
-Inv-loop marks₀ path k₀ marks k = (k ≤ length path) × (length marks ≡ length marks₀) × (marked marks (drop k path) ≡ marked marks₀ path)
+Inv-loop marks₀ path k₀ marks k =
+    (k ≤ length path) × (length marks ≡ length marks₀) × (marked marks (drop k path) ≡ marked marks₀ path)
 
 abbrev μ-loop : tie.MeasureT-loop
 μ-loop marks₀ path k₀ marks k = length path - k

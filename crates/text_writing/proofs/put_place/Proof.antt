@@ -47,7 +47,9 @@ put-labelled-requires-3 c κs = search needs
 
 returns-3 : tie.Need-returns-3
 unfolding codes labelled
-returns-3 c = laid-as (c .before .before .put-labelled3 .ensures) (place-record _ _ (is-inside 4 11 _ (omega arith) (omega arith)))
+returns-3 c =
+    laid-as (c .before .before .put-labelled3 .ensures)
+    (place-record _ _ (is-inside 4 11 _ (omega arith) (omega arith)))
 
 same-length-3 : tie.Need-same-length-3
 same-length-3 c = laid-length (returns-3 c)

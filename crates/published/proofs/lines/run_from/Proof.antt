@@ -34,8 +34,11 @@ returns : tie.Need-returns
 returns c =
     let printed = c .before .before in
     let chosen = printed .before .before .before .before in
-    let ran = (chosen .before .before .before .before .before .run) .ensures in
-    (laid-as (printed .print-run .ensures) (printed-run _ _ _ _ _ _ _ _ ran (chosen .choices .ensures)), ran .1 .1 .0)
+    let ran = (chosen .before .before .before .before .before) .run .ensures in
+    record {
+      lines = laid-as (printed .print-run .ensures) (printed-run _ _ _ _ _ _ _ _ ran (chosen .choices .ensures));
+      state = ran .1 .1 .0;
+    }
 
 pub run-from-spec : {M : Type 1} → statement M
 run-from-spec =

@@ -56,22 +56,26 @@ past1 c =
 past2 : (c : tie.Else2) → PastAt (alone2 c) 2
 unfolding recordRules rule inRecord
 past2 c =
-    past-more _ _ 1 _ _ refl (past1 (c .before .before)) (c .before .vertex-bad .ensures ∙ ap vertexBad (own (alone2 c))) (c .if2 .left)
+    past-more _ _ 1 _ _ refl (past1 (c .before .before))
+    (c .before .vertex-bad .ensures ∙ ap vertexBad (own (alone2 c))) (c .if2 .left)
 
 past3 : (c : tie.Else3) → PastAt (alone3 c) 3
 unfolding recordRules rule inRecord
 past3 c =
-    past-more _ _ 2 _ _ refl (past2 (c .before .before)) (c .before .filler-bad .ensures ∙ ap fillerBad (own (alone3 c))) (c .if3 .left)
+    past-more _ _ 2 _ _ refl (past2 (c .before .before))
+    (c .before .filler-bad .ensures ∙ ap fillerBad (own (alone3 c))) (c .if3 .left)
 
 past4 : (c : tie.Else4) → PastAt (alone4 c) 4
 unfolding recordRules rule inRecord
 past4 c =
-    past-more _ _ 3 _ _ refl (past3 (c .before .before)) (c .before .twice-bad .ensures ∙ ap twiceBad (own (alone4 c))) (c .if4 .left)
+    past-more _ _ 3 _ _ refl (past3 (c .before .before)) (c .before .twice-bad .ensures ∙ ap twiceBad (own (alone4 c)))
+    (c .if4 .left)
 
 past5 : (c : tie.Else5) → PastAt (alone5 c) 5
 unfolding recordRules rule inRecord
 past5 c =
-    past-more _ _ 4 _ _ refl (past4 (c .before .before)) (c .before .last-bad .ensures ∙ ap lastBad (own (alone5 c))) (c .if5 .left)
+    past-more _ _ 4 _ _ refl (past4 (c .before .before)) (c .before .last-bad .ensures ∙ ap lastBad (own (alone5 c)))
+    (c .if5 .left)
 
 past6 : (c : tie.Else6) → PastAt (alone6 c) 6
 unfolding recordRules rule inRecord
@@ -98,7 +102,8 @@ hops-bad-requires c κs = search needs
 returns : tie.Need-returns
 unfolding recordRules rule inRecord
 returns c =
-    past-stop _ _ 0 _ _ refl (past-none _ _) (c .before .hops-bad .ensures ∙ ap hopsBad (own (c .before .before))) (c .if1 .taken)
+    past-stop _ _ 0 _ _ refl (past-none _ _) (c .before .hops-bad .ensures ∙ ap hopsBad (own (c .before .before)))
+    (c .if1 .taken)
 
 vertex-bad-requires : tie.Need-vertex-bad-requires
 vertex-bad-requires c κs = search needs
@@ -106,7 +111,8 @@ vertex-bad-requires c κs = search needs
 returns-2 : tie.Need-returns-2
 unfolding recordRules rule inRecord
 returns-2 c =
-    past-stop _ _ 1 _ _ refl (past1 (c .before .before)) (c .before .vertex-bad .ensures ∙ ap vertexBad (own (alone1 (c .before .before)))) (c .if2 .taken)
+    past-stop _ _ 1 _ _ refl (past1 (c .before .before))
+    (c .before .vertex-bad .ensures ∙ ap vertexBad (own (alone1 (c .before .before)))) (c .if2 .taken)
 
 filler-bad-requires : tie.Need-filler-bad-requires
 filler-bad-requires c κs =
@@ -118,7 +124,8 @@ filler-bad-requires c κs =
 returns-3 : tie.Need-returns-3
 unfolding recordRules rule inRecord
 returns-3 c =
-    past-stop _ _ 2 _ _ refl (past2 (c .before .before)) (c .before .filler-bad .ensures ∙ ap fillerBad (own (alone2 (c .before .before)))) (c .if3 .taken)
+    past-stop _ _ 2 _ _ refl (past2 (c .before .before))
+    (c .before .filler-bad .ensures ∙ ap fillerBad (own (alone2 (c .before .before)))) (c .if3 .taken)
 
 twice-bad-requires : tie.Need-twice-bad-requires
 twice-bad-requires c κs = search needs
@@ -126,7 +133,8 @@ twice-bad-requires c κs = search needs
 returns-4 : tie.Need-returns-4
 unfolding recordRules rule inRecord
 returns-4 c =
-    past-stop _ _ 3 _ _ refl (past3 (c .before .before)) (c .before .twice-bad .ensures ∙ ap twiceBad (own (alone3 (c .before .before)))) (c .if4 .taken)
+    past-stop _ _ 3 _ _ refl (past3 (c .before .before))
+    (c .before .twice-bad .ensures ∙ ap twiceBad (own (alone3 (c .before .before)))) (c .if4 .taken)
 
 last-bad-requires : tie.Need-last-bad-requires
 last-bad-requires c κs = search needs
@@ -134,7 +142,8 @@ last-bad-requires c κs = search needs
 returns-5 : tie.Need-returns-5
 unfolding recordRules rule inRecord
 returns-5 c =
-    past-stop _ _ 4 _ _ refl (past4 (c .before .before)) (c .before .last-bad .ensures ∙ ap lastBad (own (alone4 (c .before .before)))) (c .if5 .taken)
+    past-stop _ _ 4 _ _ refl (past4 (c .before .before))
+    (c .before .last-bad .ensures ∙ ap lastBad (own (alone4 (c .before .before)))) (c .if5 .taken)
 
 owner-bad-requires : tie.Need-owner-bad-requires
 owner-bad-requires c κs = search needs
@@ -161,7 +170,8 @@ path-bad-requires c κs =
       given .pre .0,
       hops12 at-hops,
       orderly-more _ _ (given .pre .1)
-          (sym (at-owner .before .owner-bad .ensures) ∙ at-owner .if6 .left) (sym (c .before .rank-bad .ensures) ∙ c .if7 .left),
+          (sym (at-owner .before .owner-bad .ensures) ∙ at-owner .if6 .left)
+          (sym (c .before .rank-bad .ensures) ∙ c .if7 .left),
     )
 
 returns-8 : tie.Need-returns-8

@@ -1,5 +1,5 @@
--- `reader::faults::path_bad` meets its contract: the block of the owner begins where its rank says, and no record before it has the path.
--- Assumes nothing.
+-- `reader::faults::path_bad` meets its contract: the block of the owner begins where its rank says, and no record
+-- before it has the path. Assumes nothing.
 use mathlib.Core.Path.{_≡_, refl, ap, _∙_}
 use mathlib.Core.Bool.{false}
 use Prim.Native.Nat.{ℕ, _+_, _≤_, _-_}
@@ -94,7 +94,8 @@ looked c =
 returns : tie.Need-returns Inv-loop μ-loop
 returns c =
     let in-loop = c .before .before .before in
-    path-hit _ _ _ (in-loop .before .loop .inv .1) _ _ _ refl refl (looked (c .before)) (in-loop .loop-test .taken) (c .if1 .taken)
+    path-hit _ _ _ (in-loop .before .loop .inv .1) _ _ _ refl refl (looked (c .before)) (in-loop .loop-test .taken)
+    (c .if1 .taken)
 
 add-j-2 : tie.Need-add-j-2 Inv-loop μ-loop
 add-j-2 c = omega arith
