@@ -12,7 +12,7 @@ use borrow.Author.Tests.{eq-eqb, ne-eqb, not-true}
 use Rattle.lists.specs.Search.{elem, firstFrom, twice}
 use Rattle.lists.specs.SearchLaws.{Found, first-found, first-none, finds-passing, pigeonhole}
 use Rattle.lists.specs.ListLaws.{twice-apart, apart-twice}
-use Rattle.lists.specs.Tests.{by-test, by-equal, by-less, by-option, true≢, none≢some, and-parts, both}
+use Rattle.lists.specs.Tests.{by-test, by-equal, by-less, by-option, true≢, none≢some, and-parts, both, impossible}
 use Rattle.lists.specs.Fill.{tabulate}
 use Rattle.lists.specs.FillLaws.{tabulate-length, tabulate-at, tabulate-ext, tabulate-add, tabulate-take, tabulate-drop, tabulate-elem, tabulate-place}
 use Rattle.rules.specs.Table.{Path, nextHop}
@@ -40,7 +40,7 @@ pub judged-waits : (paths : ℕ → List Path) (S : Settled) (p : Path)
 unfolding judged
 judged-waits paths S [] e = absurd (none≢some e refl)
 judged-waits paths S (v ∷ p) e = (
-  λ q. let z : _≡_ {A = ℕ} 0 1 = cc in omega arith,
+  λ q. impossible cc,
   by-test (isSettled (S (nextHop (v ∷ p))))
       (λ q. absurd (none≢some {a = v ∷ p} e (rw (q, judged)))) (λ q. q),
 )

@@ -9,8 +9,12 @@ use lib.Dec.{ltb, eqb}
 use borrow.Author.Tests.{eqb-true, eqb-false, eq-eqb, ne-eqb, ltb-true, ltb-false, lt-ltb, le-ltb}
 use Rattle.lists.specs.Search.{outside}
 
+-- what holds where two different cases are called equal: `cc` then says that 0 is 1
+pub impossible : {C : Type 0} → _≡_ {A = ℕ} 0 1 → C
+impossible z = absurd (omega (arith, z))
+
 pub true≢ : {b : Bool} → b ≡ true → b ≡ false → ⊥
-true≢ {b} p q = let z : _≡_ {A = ℕ} 0 1 = cc in omega arith
+true≢ {b} p q = impossible cc
 
 -- by cases: a test holds or fails, two numbers are equal or not, one is below the other or not
 
@@ -100,4 +104,4 @@ module _ {A : Type 0} where
   by-option (some a) f g = g a refl
 
   pub none≢some : {o : Option A} {a : A} → o ≡ none → o ≡ some a → ⊥
-  none≢some {o} {a} d e = let z : _≡_ {A = ℕ} 0 1 = cc in omega arith
+  none≢some {o} {a} d e = impossible cc

@@ -2,7 +2,7 @@
 use mathlib.Core.Path.{_≡_, refl, sym}
 use mathlib.Core.Option.{Option, none, some}
 use Prim.Native.Nat.{ℕ}
-use native.Mathlib.Omega.{arith}
+use Rattle.lists.specs.Tests.{impossible}
 use Rattle.rules.specs.Refusals.{Refusal}
 use Rattle.reader.specs.declared.Reading.the-variants.{Accepted, Refused}
 use Rattle.reader.specs.Reading.{readingOf}
@@ -11,8 +11,8 @@ use Rattle.reader.specs.Reading.{readingOf}
 pub reading-tells : (a b : Option Refusal) → readingOf a ≡ readingOf b → a ≡ b
 unfolding readingOf
 reading-tells none none e = refl
-reading-tells none (some r) e = absurd (let z : _≡_ {A = ℕ} 0 1 = cc in omega arith)
-reading-tells (some r) none e = absurd (let z : _≡_ {A = ℕ} 0 1 = cc in omega arith)
+reading-tells none (some r) e = impossible cc
+reading-tells (some r) none e = impossible cc
 reading-tells (some r) (some s) e =
     let n : r .number ≡ s .number = cc in
     let p : r .place ≡ s .place = cc in

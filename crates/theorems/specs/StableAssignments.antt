@@ -7,7 +7,7 @@ use mathlib.Core.Bool.{true}
 use mathlib.Core.List.{List}
 use mathlib.Core.Option.{none, some}
 use native.Mathlib.Omega.{arith}
-use Rattle.lists.specs.Tests.{by-option}
+use Rattle.lists.specs.Tests.{by-option, impossible}
 use Rattle.rules.specs.Table.{Path, pathsOf, present}
 use Rattle.rules.specs.Greedy.{isSettled, stageCount, stuckIn}
 use Rattle.rules.specs.Stable.{Stable}
@@ -30,7 +30,7 @@ reportedPaths t v = pathShown (rowOf t v)
 complete-empty : (n : ℕ) → verdictOf n ≡ complete → n ≡ 0
 unfolding verdictOf
 complete-empty zero e = refl
-complete-empty (suc n) e = absurd (let z : _≡_ {A = ℕ} 0 1 = cc in omega arith)
+complete-empty (suc n) e = impossible cc
 
 module _ (t : List ℕ) (accepted : refusal t ≡ none) where
   -- Every stable assignment gives a router whose row says a stage what its row reports: that path, or none.
