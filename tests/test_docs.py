@@ -1,8 +1,9 @@
-"""What README and docs/PROOFS.md name exists: each theorem, contract, definition and file; and what holds each definition of
-the rules is told and tried."""
+"""What README and docs/PROOFS.md name exists: each theorem, contract, definition and file; what holds each definition of the
+rules is told and tried; and no two crates have a file of definitions or laws of one name."""
 
 import re
 import unittest
+from collections import Counter
 from pathlib import Path
 
 ROOT = Path(__file__).resolve().parent.parent
@@ -103,6 +104,21 @@ def believed(files):
 def told(document):
     """A document's words, however its lines are broken."""
     return " ".join((ROOT / document).read_text(encoding="utf-8").split())
+
+
+def names_twice(paths):
+    """The names of files that stand in the specs of two crates; the toolchain wants a `Lib.antt` in each."""
+    counts = Counter(path.name for path in paths)
+    return sorted(name for name, count in counts.items() if count > 1 and name != "Lib.antt")
+
+
+class Specs(unittest.TestCase):
+    def test_a_file_is_told_by_its_name(self):
+        self.assertEqual(names_twice(ROOT.glob("crates/*/specs/*.antt")), [])
+
+    def test_a_name_that_stands_twice_is_found(self):
+        paths = [Path("a/Lib.antt"), Path("b/Lib.antt"), Path("a/RowLaws.antt"), Path("b/RowLaws.antt"), Path("b/Rows.antt")]
+        self.assertEqual(names_twice(paths), ["RowLaws.antt"])
 
 
 class Definitions(unittest.TestCase):

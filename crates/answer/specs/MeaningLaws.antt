@@ -2,7 +2,7 @@
 use mathlib.Core.Path.{_≡_, refl}
 use mathlib.Core.Option.{Option, none, some}
 use Prim.Native.Nat.{ℕ, zero, suc}
-use native.Mathlib.Omega.{arith}
+use Rattle.lists.specs.Tests.{impossible}
 use Rattle.rules.specs.Refusals.{Refusal}
 use Rattle.rules.specs.Answers.{verdict, verdictOf}
 use Rattle.answer.specs.declared.Verdict.{Verdict}
@@ -14,13 +14,13 @@ use Rattle.answer.specs.Meaning.{meaning, checkRefusalIn, numbers}
 pub meaning-tells : (a b : Verdict) → meaning a ≡ meaning b → a ≡ b
 unfolding meaning
 meaning-tells Complete Complete e = refl
-meaning-tells Complete (Stuck n) e = absurd (let z : _≡_ {A = ℕ} 0 1 = cc in omega arith)
-meaning-tells Complete (Refused n k) e = absurd (let z : _≡_ {A = ℕ} 0 1 = cc in omega arith)
-meaning-tells (Stuck n) Complete e = absurd (let z : _≡_ {A = ℕ} 0 1 = cc in omega arith)
+meaning-tells Complete (Stuck n) e = impossible cc
+meaning-tells Complete (Refused n k) e = impossible cc
+meaning-tells (Stuck n) Complete e = impossible cc
 meaning-tells (Stuck n) (Stuck m) e = cc
-meaning-tells (Stuck n) (Refused m k) e = absurd (let z : _≡_ {A = ℕ} 0 1 = cc in omega arith)
-meaning-tells (Refused n k) Complete e = absurd (let z : _≡_ {A = ℕ} 0 1 = cc in omega arith)
-meaning-tells (Refused n k) (Stuck m) e = absurd (let z : _≡_ {A = ℕ} 0 1 = cc in omega arith)
+meaning-tells (Stuck n) (Refused m k) e = impossible cc
+meaning-tells (Refused n k) Complete e = impossible cc
+meaning-tells (Refused n k) (Stuck m) e = impossible cc
 meaning-tells (Refused n k) (Refused m j) e = cc
 
 -- an answer is told by what its verdict says and by its numbers
@@ -38,11 +38,11 @@ answer-tells a b e f =
 pub refusal-in : (v : Verdict) (o : Option Refusal) (n : ℕ) → meaning v ≡ verdict o (verdictOf n) → checkRefusalIn v ≡ o
 unfolding meaning checkRefusalIn verdict verdictOf
 refusal-in Complete none n e = refl
-refusal-in Complete (some r) n e = absurd (let z : _≡_ {A = ℕ} 0 1 = cc in omega arith)
+refusal-in Complete (some r) n e = impossible cc
 refusal-in (Stuck k) none n e = refl
-refusal-in (Stuck k) (some r) n e = absurd (let z : _≡_ {A = ℕ} 0 1 = cc in omega arith)
-refusal-in (Refused a k) none zero e = absurd (let z : _≡_ {A = ℕ} 0 1 = cc in omega arith)
-refusal-in (Refused a k) none (suc n) e = absurd (let z : _≡_ {A = ℕ} 0 1 = cc in omega arith)
+refusal-in (Stuck k) (some r) n e = impossible cc
+refusal-in (Refused a k) none zero e = impossible cc
+refusal-in (Refused a k) none (suc n) e = impossible cc
 refusal-in (Refused a k) (some r) n e =
     let x : a ≡ r .number = cc in
     let y : k ≡ r .place = cc in

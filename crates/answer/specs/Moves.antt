@@ -1,9 +1,10 @@
 -- What each case of the step's and the run's answers says in the numbers and values of the rules page.
 use Prim.Native.Nat.{ℕ}
-use mathlib.Core.List.{List, [], _∷_}
+use mathlib.Core.List.{List, []}
 use mathlib.Core.Option.{Option, none, some}
 use lib.IntN.{ℤ, pos}
 use Rattle.rules.specs.Refusals.{Refusal}
+use Rattle.rules.specs.Run.{countsOf}
 use Rattle.answer.specs.declared.StepAnswer.{StepAnswer}
 use Rattle.answer.specs.declared.StepAnswer.the-variants as step
 use Rattle.answer.specs.declared.RunVerdict.{RunVerdict}
@@ -27,4 +28,14 @@ runRefusalIn (run.Refused n k) = some (record { number = n; place = k })
 
 -- "the number of steps, of ups, of downs, the number of the last step that changed a choice .., and the rounds"
 unfoldable pub runNumbersIn : RunAnswer → List ℕ
-runNumbersIn a = a .steps ∷ a .ups ∷ a .downs ∷ a .last ∷ a .rounds ∷ []
+runNumbersIn a =
+    countsOf (record {
+      heard = [];
+      steps = a .steps;
+      ups = a .ups;
+      downs = a .downs;
+      lastChange = a .last;
+      rounds = a .rounds;
+      since = [];
+      sums = [];
+    })

@@ -1,8 +1,7 @@
 -- Laws of what the step's and the run's answers say: they say everything, so two answers that say the same are equal.
 use mathlib.Core.Path.{_≡_, refl}
 use mathlib.Core.Option.{some}
-use Prim.Native.Nat.{ℕ}
-use native.Mathlib.Omega.{arith}
+use Rattle.lists.specs.Tests.{impossible}
 use Rattle.rules.specs.Refusals.{Refusal}
 use Rattle.answer.specs.declared.StepAnswer.{StepAnswer}
 use Rattle.answer.specs.declared.StepAnswer.the-variants as step
@@ -19,20 +18,23 @@ refusal-tells r s e = (cc, cc)
 pub step-tells : (a b : StepAnswer) → stepRefusalIn a ≡ stepRefusalIn b → movementIn a ≡ movementIn b → a ≡ b
 unfolding stepRefusalIn movementIn
 step-tells (step.Moved m) (step.Moved n) e f = cc
-step-tells (step.Moved m) (step.Refused n k) e f = absurd (let z : _≡_ {A = ℕ} 0 1 = cc in omega arith)
-step-tells (step.Refused n k) (step.Moved m) e f = absurd (let z : _≡_ {A = ℕ} 0 1 = cc in omega arith)
+step-tells (step.Moved m) (step.Refused n k) e f = impossible cc
+step-tells (step.Refused n k) (step.Moved m) e f = impossible cc
 step-tells (step.Refused n k) (step.Refused m j) e f = let r = refusal-tells _ _ e in λ i. step.Refused (r .0 i) (r .1 i)
 
 -- a run's verdict is told by its refusal
 pub run-verdict-tells : (a b : RunVerdict) → runRefusalIn a ≡ runRefusalIn b → a ≡ b
 unfolding runRefusalIn
 run-verdict-tells run.Accepted run.Accepted e = refl
-run-verdict-tells run.Accepted (run.Refused n k) e = absurd (let z : _≡_ {A = ℕ} 0 1 = cc in omega arith)
-run-verdict-tells (run.Refused n k) run.Accepted e = absurd (let z : _≡_ {A = ℕ} 0 1 = cc in omega arith)
+run-verdict-tells run.Accepted (run.Refused n k) e = impossible cc
+run-verdict-tells (run.Refused n k) run.Accepted e = impossible cc
 run-verdict-tells (run.Refused n k) (run.Refused m j) e = let r = refusal-tells _ _ e in λ i. run.Refused (r .0 i) (r .1 i)
 
 -- a run's answer is told by its refusal and its numbers
-pub run-tells : (a b : RunAnswer) → runRefusalIn (a .verdict) ≡ runRefusalIn (b .verdict) → runNumbersIn a ≡ runNumbersIn b → a ≡ b
+pub run-tells : (a b : RunAnswer)
+    → runRefusalIn (a .verdict) ≡ runRefusalIn (b .verdict)
+    → runNumbersIn a ≡ runNumbersIn b
+    → a ≡ b
 unfolding runNumbersIn
 run-tells a b e f =
     let v = run-verdict-tells (a .verdict) (b .verdict) e in

@@ -1,4 +1,4 @@
+-- The text of an answer.
+pub mod AnswerText
 -- The text of each of the three verdicts.
-pub mod VerdictLaws
--- What the print's contract says of its result.
-pub mod PrintLaws
+pub mod VerdictTextLaws

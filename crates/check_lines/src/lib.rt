@@ -1,8 +1,9 @@
 // The printed text of the check's answer, for any answer and any buffers: a small function for each kind of line.
 ghost use mathlib.Core.Path.{_≡_};
-ghost use Rattle.rules.specs.Text.{verdictLine, stageWords, rowPath, rowLine, rowLines, ringLine, textOf};
-ghost use Rattle.answer.specs.Meaning.{meaning, numbers};
+ghost use Rattle.rules.specs.Text.{verdictLine, stageWords, rowPath, rowLine, rowLines, ringLine};
+ghost use Rattle.answer.specs.Meaning.{numbers};
 ghost use Rattle.text_writing.specs.Lay.{Laid};
+ghost use Rattle.check_lines.specs.AnswerText.{answerText};
 use answer::Answer;
 use answer::Verdict;
 use record_fields::record_at;
@@ -14,6 +15,22 @@ use text_writing::put_number;
 use text_writing::put_refused;
 use text_writing::put_route;
 use text_writing::put_spaced;
+
+const LAST_VERTEX: usize = 63;
+
+// The first byte of a row that waits, and of one whose vertex is absent; otherwise it is the stage.
+const STUCK: u8 = 255;
+
+const ABSENT: u8 = 254;
+
+// Where a row has its stage, its rank, its hops and its path.
+const STAGE: usize = 0;
+
+const RANK: usize = 1;
+
+const HOPS: usize = 2;
+
+const PATH: usize = 3;
 
 // `verdict stuck settled 1 stuck 2 stages 1 longest 2`, with the verdict's name.
 fn put_verdict(text: &mut [u8], name: &[u8], answer: Answer) -> usize
@@ -32,8 +49,8 @@ fn put_verdict(text: &mut [u8], name: &[u8], answer: Answer) -> usize
 fn put_stage(text: &mut [u8], at: usize, row: &[u8]) -> usize
     ensures { λ r. ⌜ Laid at (stageWords (now (row .entry))) (now (text .entry)) (now (text .exit)) r ⌝ }
 {
-    let stage = byte_at(row, 0);
-    if stage == 255 {
+    let stage = byte_at(row, STAGE);
+    if stage == STUCK {
         return put(text, at, b" stuck");
     }
     put_labelled(text, at, b" stage ", stage as usize)
@@ -44,23 +61,23 @@ fn path_in(row: &[u8]) -> &[u8]
     ensures { λ r. ⌜ now r ≡ rowPath (now (row .entry)) ⌝ }
 {
     let length = row.len();
-    if length < 3 {
+    if length < PATH {
         return &row[..0];
     }
-    let end = at_most(byte_at(row, 2) as usize + 4, length);
-    &row[3..end]
+    let end = at_most(byte_at(row, HOPS) as usize + 4, length);
+    &row[PATH..end]
 }
 
 // The line of vertex v, where it is present.
 fn put_row(text: &mut [u8], at: usize, v: usize, row: &[u8]) -> usize
     ensures { λ r. ⌜ Laid at (rowLine v (now (row .entry))) (now (text .entry)) (now (text .exit)) r ⌝ }
 {
-    if byte_at(row, 0) == 254 {
+    if byte_at(row, STAGE) == ABSENT {
         return at;
     }
     let named = put_number(text, at, v);
     let staged = put_stage(text, named, row);
-    let routed = put_route(text, staged, byte_at(row, 1), path_in(row));
+    let routed = put_route(text, staged, byte_at(row, RANK), path_in(row));
     put(text, routed, b"\n")
 }
 
@@ -70,7 +87,7 @@ fn put_rows(text: &mut [u8], at: usize, rows: &[u8]) -> usize
 {
     let mut next = at;
     let mut v = 0;
-    while v < 63 {
+    while v < LAST_VERTEX {
         v += 1;
         next = put_row(text, next, v, record_at(rows, v));
     }
@@ -89,7 +106,8 @@ fn put_ring(text: &mut [u8], at: usize, size: u8, ring: &[u8]) -> usize
 
 // Lays the text of an answer over the front of a buffer, as far as it fits, and answers how many bytes were laid.
 pub fn print(answer: Answer, rows: &[u8], ring: &[u8], text: &mut [u8]) -> usize
-    ensures { λ r. ⌜ Laid 0 (textOf (meaning (answer .verdict)) (numbers answer) (now (rows .entry)) (now (ring .entry))) (now (text .entry)) (now (text .exit)) r ⌝ }
+    ensures { λ r.
+        ⌜ Laid 0 (answerText answer (now (rows .entry)) (now (ring .entry))) (now (text .entry)) (now (text .exit)) r ⌝ }
 {
     let verdict = answer.verdict;
     match verdict {

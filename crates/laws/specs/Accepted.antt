@@ -51,7 +51,8 @@ module _ (t : List ℕ) where
   pub reads : Reads t
   reads =
       by-less 16128 (length t) (λ l. long (refused-long t l))
-      (λ short. by-equal (length t % 16) 0 (λ whole. by-option (firstBad t) (λ e. all-fine short whole e) (λ i e. bad i (first-bad short i e) (refused-record t short whole i e)))
+      (λ short. by-equal (length t % 16) 0 (λ whole. by-option (firstBad t) (λ e. all-fine short whole e)
+      (λ i e. bad i (first-bad short i e) (refused-record t short whole i e)))
       (λ f. ragged (refused-ragged t short f)))
     where
       all-fine : length t ≤ 16128 → length t % 16 ≡ 0 → firstBad t ≡ none → Reads t
@@ -60,7 +61,8 @@ module _ (t : List ℕ) where
           (record {
             short = short;
             whole = whole;
-            kept = λ i h. no-fault t i (faulty-not i (first-none (faulty t) 0 (records t) (searched ∙ e) i (omega arith) (omega arith)));
+            kept = λ i h. no-fault t i (faulty-not i (first-none (faulty t) 0 (records t) (searched ∙ e) i (omega arith)
+                (omega arith)));
           })
           (not-refused t short whole e)
 
@@ -107,5 +109,7 @@ told t r e = go (reads t)
     go : Reads t → Told t r
     go (long q) = tells 2 0 q (omega arith) (omega arith) (omega arith)
     go (ragged q) = tells 3 0 q (omega arith) (omega arith) (omega arith)
-    go (bad i f q) = let b = fault-range t i (f .here) in tells (fault t i) i q (omega arith) (omega arith) (omega (arith, f .within, f .short))
+    go (bad i f q) =
+        let b = fault-range t i (f .here) in tells (fault t i) i q (omega arith) (omega arith)
+        (omega (arith, f .within, f .short))
     go (fine a q) = absurd (none≢some q e)

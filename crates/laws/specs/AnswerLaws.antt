@@ -98,7 +98,8 @@ module _ (table heard : List ℕ) (p : Pair) where
         unfolding stepRefusal
         by-pair = rest-decides _ (refusal table) _ _ (same-length 4096 heard long) accepted valid
 
-        pub step-refused-pair : listens (pathsOf table) (p .listener) (p .speaker) ≡ false → stepRefusal table heard p ≡ at 14 0
+        pub step-refused-pair : listens (pathsOf table) (p .listener) (p .speaker) ≡ false
+            → stepRefusal table heard p ≡ at 14 0
         unfolding firstBadPair firstIn refusedAt
         step-refused-pair e = by-pair ∙ rw (e, firstIn, refusedAt)
 
@@ -121,9 +122,12 @@ module _ (table heard s : List ℕ) (sums : List ℤ) where
     run-refused-table r e = table-decides _ (refusal table) _ _ (both-same 4096 64 heard sums long longSums) r e
 
     module _ (accepted : refusal table ≡ none) where
-      pub run-refused-heard : (k : ℕ) → heardFault (pathsOf table) heard ≡ some k → runRefusal table heard s sums ≡ at 12 k
+      pub run-refused-heard : (k : ℕ)
+          → heardFault (pathsOf table) heard ≡ some k
+          → runRefusal table heard s sums ≡ at 12 k
       unfolding runRefusal
-      run-refused-heard k e = state-decides _ (refusal table) _ _ (both-same 4096 64 heard sums long longSums) k accepted e
+      run-refused-heard k e =
+          state-decides _ (refusal table) _ _ (both-same 4096 64 heard sums long longSums) k accepted e
 
       module _ (valid : heardFault (pathsOf table) heard ≡ none) where
         by-schedule : runRefusal table heard s sums
@@ -135,7 +139,9 @@ module _ (table heard s : List ℕ) (sums : List ℤ) where
         run-refused-schedule e = by-schedule ∙ if-decides _ 13 _ e
 
         module _ (whole : scheduleBad s ≡ false) where
-          pub run-refused-pair : (k : ℕ) → firstBadPair (pathsOf table) (pairsIn s) ≡ some k → runRefusal table heard s sums ≡ at 14 k
+          pub run-refused-pair : (k : ℕ)
+              → firstBadPair (pathsOf table) (pairsIn s) ≡ some k
+              → runRefusal table heard s sums ≡ at 14 k
           unfolding refusedAt
           run-refused-pair k e = by-schedule ∙ if-passes _ 13 _ whole ∙ rw e
 
@@ -172,7 +178,8 @@ right-length n l e = let r = inside n n (length l) e in omega arith
 -- an accepted check says that the table is accepted
 pub check-admitted : (table rows ring : List ℕ) → checkRefusal table rows ring ≡ none → refusal table ≡ none
 unfolding checkRefusal
-check-admitted table rows ring e = both-none (refusedIf (otherLength 1024 rows || otherLength 64 ring) 1) (refusal table) e .1
+check-admitted table rows ring e =
+    both-none (refusedIf (otherLength 1024 rows || otherLength 64 ring) 1) (refusal table) e .1
 
 -- the checks that the step and the run have in common
 common-none : (wrong : Bool) (table : Option Refusal) (fault : Option ℕ) (rest : Option Refusal)
@@ -200,7 +207,8 @@ step-admitted table heard p e =
 pub run-whole : (table heard s : List ℕ) (sums : List ℤ) → runRefusal table heard s sums ≡ none → scheduleBad s ≡ false
 unfolding runRefusal
 run-whole table heard s sums e =
-    let c = common-none (otherLength 4096 heard || otherLength 64 sums) (refusal table) (heardFault (pathsOf table) heard) _ e in
+    let c = common-none (otherLength 4096 heard || otherLength 64 sums) (refusal table)
+    (heardFault (pathsOf table) heard) _ e in
     if-none (scheduleBad s) 13 (both-none (refusedIf (scheduleBad s) 13) _ (c .1 .1) .0)
 
 pub run-admitted : (table heard s : List ℕ) (sums : List ℤ)
@@ -210,7 +218,8 @@ unfolding runRefusal
 run-admitted table heard s sums e =
     let lent = otherLength 4096 heard || otherLength 64 sums in
     let pairs = firstBadPair (pathsOf table) (pairsIn s) in
-    let c = common-none lent (refusal table) (heardFault (pathsOf table) heard) (refusedIf (scheduleBad s) 13 orElse refusedAt pairs 14) e in
+    let c = common-none lent (refusal table) (heardFault (pathsOf table) heard)
+    (refusedIf (scheduleBad s) 13 orElse refusedAt pairs 14) e in
     record {
       long = right-length 4096 heard (or-none (otherLength 4096 heard) (otherLength 64 sums) (c .0 .0) .0);
       accepted = c .0 .1;

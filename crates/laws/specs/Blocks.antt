@@ -41,9 +41,13 @@ module _ (t : List ℕ) (e : refusal t ≡ none) where
         let a = first-of in
         let b = second-of in
         by-test (ltb (rankAt t i + j) (rankAt t j + i))
-        (λ q. let l = ltb-true (rankAt t i + j) (rankAt t j + i) q in absurd (starts-later (suc j - rankAt t j) (omega (arith, b .fits, b .least)) (omega (arith, b .fits, b .least)) (omega (arith, b .fits, a .fits))))
+        (λ q. let l = ltb-true (rankAt t i + j) (rankAt t j + i) q in absurd
+        (starts-later (suc j - rankAt t j) (omega (arith, b .fits, b .least)) (omega (arith, b .fits, b .least))
+        (omega (arith, b .fits, a .fits))))
         (λ q. by-test (ltb (rankAt t j + i) (rankAt t i + j))
-        (λ p. let l = ltb-true (rankAt t j + i) (rankAt t i + j) p in absurd (starts-earlier (suc i - rankAt t i) (omega (arith, a .fits, a .least)) (omega (arith, a .fits, a .least)) (omega (arith, b .fits, a .fits))))
+        (λ p. let l = ltb-true (rankAt t j + i) (rankAt t i + j) p in absurd
+        (starts-earlier (suc i - rankAt t i) (omega (arith, a .fits, a .least)) (omega (arith, a .fits, a .least))
+        (omega (arith, b .fits, a .fits))))
         (λ p. omega (arith, ltb-false (rankAt t i + j) (rankAt t j + i) q, ltb-false (rankAt t j + i) (rankAt t i + j) p)))
       where
         starts-later : (m : ℕ) → suc j ≤ m + rankAt t j → m ≤ j → m + rankAt t i ≤ i → ⊥
@@ -91,7 +95,9 @@ module _ (t : List ℕ) (e : refusal t ≡ none) (v : ℕ) where
         most = r .most;
         within = omega (arith, r .within);
         mine = r .mine;
-        others = λ i l o. by-test (eqb i n) (λ p. absurd (eqb-false (ownerAt t n) v q (ap (ownerAt t) (sym (eqb-true i n p)) ∙ o))) (λ p. r .others i (omega (arith, eqb-false i n p)) o);
+        others = λ i l o. by-test (eqb i n) (λ p. absurd
+            (eqb-false (ownerAt t n) v q (ap (ownerAt t) (sym (eqb-true i n p)) ∙ o)))
+            (λ p. r .others i (omega (arith, eqb-false i n p)) o);
         ranks = r .ranks;
         once = r .once;
       })
@@ -106,12 +112,17 @@ module _ (t : List ℕ) (e : refusal t ≡ none) (v : ℕ) where
             within = omega (arith, b .fits);
             mine = λ i lo hi. b .inside i (omega arith) (omega (arith, b .fits)) ∙ o;
             others = λ i l p. (omega (arith, in-block t e i n (omega arith) h (p ∙ sym o)), omega (arith, b .fits));
-            ranks = λ k l. omega (arith, b .fits, ranks-rise t e (suc n - rankAt t n + k) n (omega (arith, b .fits)) h (b .inside (suc n - rankAt t n + k) (omega (arith, b .fits)) (omega (arith, b .fits))));
+            ranks = λ k l. omega (
+              arith,
+              b .fits,
+              ranks-rise t e (suc n - rankAt t n + k) n (omega (arith, b .fits)) h
+                  (b .inside (suc n - rankAt t n + k) (omega (arith, b .fits)) (omega (arith, b .fits))),
+            );
             once = λ i j lo l hi. no-path-twice t e i j l (omega (arith, b .fits));
           }
 
-  -- No second block: in an accepted table all records of one owner stand together in one block, with ranks 1 to n, each once, and
-  -- no path twice.
+  -- No second block: in an accepted table all records of one owner stand together in one block, with ranks 1 to n, each
+  -- once, and no path twice.
   pub no-second-block : OneBlock t v (records t)
   no-second-block = one-block (records t) (omega arith)
 
@@ -182,4 +193,5 @@ module _ (t : List ℕ) (e : refusal t ≡ none) (v : ℕ) where
   -- the path at place k is that of the block's record k
   pub path-in-block : (k : ℕ) → k < here .size → getD (pathsOf t v) k [] ≡ pathAt t (here .start + k)
   unfolding pathsOf pathsBelow
-  path-in-block k l = map-at (pathAt t) (owned t (records t) v) k 0 [] (rw owned-length l) ∙ ap (pathAt t) (owned-at k l)
+  path-in-block k l =
+      map-at (pathAt t) (owned t (records t) v) k 0 [] (rw owned-length l) ∙ ap (pathAt t) (owned-at k l)

@@ -46,7 +46,9 @@ module _ (t heard s sums numbers : List ℕ) where
   unfolding runRefusalForC
   run-other f = if-decides _ 1 _ (second-other 256 32 sums numbers f)
 
-  pub run-same : length sums ≡ 256 → length numbers ≡ 32 → runRefusalForC t heard s sums numbers ≡ runRefusal t heard s (replicate 64 (pos 0))
+  pub run-same : length sums ≡ 256
+      → length numbers ≡ 32
+      → runRefusalForC t heard s sums numbers ≡ runRefusal t heard s (replicate 64 (pos 0))
   unfolding runRefusalForC
   run-same d e = if-passes _ 1 _ (both-same 256 32 sums numbers d e)
 

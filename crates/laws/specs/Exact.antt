@@ -1,4 +1,5 @@
--- Exactness of the table's refusals: a table is accepted exactly where it is right, and each refusal is told exactly where the page says.
+-- Exactness of the table's refusals: a table is accepted exactly where it is right, and each refusal is told exactly
+-- where the page says.
 use mathlib.Core.Path.{_≡_, refl, sym, ap, _∙_}
 use mathlib.Core.Logic.{_↔_, _⊎_, inl, inr}
 use mathlib.Core.Bool.{true, false}

@@ -1,4 +1,5 @@
--- Exactness of the choice, the standing and the step: the choice is exactly the best path that is on offer, and a step stores its rank.
+-- Exactness of the choice, the standing and the step: the choice is exactly the best path that is on offer, and a step
+-- stores its rank.
 use mathlib.Core.Path.{_≡_, refl, sym, ap, _∙_}
 use mathlib.Core.Logic.{_≢_, _↔_, inl, inr}
 use mathlib.Core.Bool.{Bool, true, false}
@@ -68,7 +69,8 @@ module _ (paths : ℕ → List Path) (present : ℕ → Bool) (shaped : Shaped p
     some-rest e = omega (arith, ap length e, length-drop 1 (path k), shaped .permitted v k h .long)
 
     heard-is : lastHeard paths heard v (getD (path k) 1 0) ≡ pathFor paths (getD (path k) 1 0) (getD heard (64 * v + getD (path k) 1 0) 0)
-    heard-is = heard-in paths heard v (getD (path k) 1 0) (shaped .permitted v k h .vertices 1 (shaped .permitted v k h .long))
+    heard-is =
+        heard-in paths heard v (getD (path k) 1 0) (shaped .permitted v k h .vertices 1 (shaped .permitted v k h .long))
 
     passes : offered k ≡ true → OnOffer paths heard v k
     unfolding extends rest nextHop
@@ -81,7 +83,8 @@ module _ (paths : ℕ → List Path) (present : ℕ → Bool) (shaped : Shaped p
     passing : OnOffer paths heard v k → offered k ≡ true
     unfolding extends rest nextHop
     passing o =
-        let e : lastHeard paths heard v (getD (path k) 1 0) ≡ drop 1 (path k) = heard-is ∙ tells paths _ _ (drop 1 (path k)) (o .told) in
+        let e : lastHeard paths heard v (getD (path k) 1 0) ≡ drop 1 (path k) = heard-is ∙ tells paths _ _
+        (drop 1 (path k)) (o .told) in
         rw e (same-refl (drop 1 (path k)))
 
     fails : (OnOffer paths heard v k → ⊥) → offered k ≡ false
@@ -106,7 +109,8 @@ module _ (paths : ℕ → List Path) (present : ℕ → Bool) (shaped : Shaped p
     lowest-chosen k l =
         let h = l .holds .under in
         choice-is
-        ∙ first-at (extends (lastHeard paths heard v)) (paths v) k h (passing k h (l .holds)) (λ j m. fails j (omega arith) (l .lowest j m))
+        ∙ first-at (extends (lastHeard paths heard v)) (paths v) k h (passing k h (l .holds))
+        (λ j m. fails j (omega arith) (l .lowest j m))
 
     none-chosen : ((k : ℕ) → OnOffer paths heard v k → ⊥) → choice paths heard v ≡ []
     none-chosen f = choice-is ∙ first-missing (extends (lastHeard paths heard v)) (paths v) (λ k h. fails k h (f k))
@@ -132,15 +136,21 @@ module _ (paths : ℕ → List Path) (present : ℕ → Bool) (shaped : Shaped p
 
 -- The statement: what a vertex other than the destination chooses, and how it stands.
 pub record ExactChoice (paths : ℕ → List Path) (heard : List ℕ) (v : ℕ) : Type 0 where
-  -- it chooses exactly the best of its paths whose rest is what it last heard from the next hop, and none exactly where there is none
-  pub chosen : (k : ℕ) → k < length (paths v) → (choice paths heard v ≡ getD (paths v) k []) ↔ Lowest (OnOffer paths heard v) k
+  -- it chooses exactly the best of its paths whose rest is what it last heard from the next hop, and none exactly where
+  -- there is none
+  pub chosen : (k : ℕ)
+      → k < length (paths v)
+      → (choice paths heard v ≡ getD (paths v) k []) ↔ Lowest (OnOffer paths heard v) k
   pub none : (choice paths heard v ≡ []) ↔ ((k : ℕ) → OnOffer paths heard v k → ⊥)
   -- it stands at 17 minus the rank, which counts from 1, and at 0 without a choice
   pub stands : (k : ℕ) → Lowest (OnOffer paths heard v) k → standing paths heard v ≡ 17 - suc k
   pub falls : ((k : ℕ) → OnOffer paths heard v k → ⊥) → standing paths heard v ≡ 0
 
 module _ (paths : ℕ → List Path) (present : ℕ → Bool) (shaped : Shaped paths present) (heard : List ℕ) (v : ℕ) (other : v ≢ 0) where
-  stands-at : (k : ℕ) → k < length (paths v) → choice paths heard v ≡ getD (paths v) k [] → standing paths heard v ≡ 17 - suc k
+  stands-at : (k : ℕ)
+      → k < length (paths v)
+      → choice paths heard v ≡ getD (paths v) k []
+      → standing paths heard v ≡ 17 - suc k
   unfolding standing rankIn standingOf
   stands-at k h e =
       let r = place-distinct (paths v) (shaped .distinct v) k h in
@@ -174,7 +184,8 @@ module _ (paths : ℕ → List Path) (present : ℕ → Bool) (shaped : Shaped p
       go : Offers paths present shaped heard v other → ExactChoice paths heard v
       go (something j l) =
           both
-          (λ k h e. let z : j ≡ k = same-place paths present shaped heard v other j k (l .holds .under) h (sym (lowest j l) ∙ e) in rw (← z) l)
+          (λ k h e. let z : j ≡ k = same-place paths present shaped heard v other j k (l .holds .under) h
+          (sym (lowest j l) ∙ e) in rw (← z) l)
           (λ e. absurd (full j (l .holds .under) (sym (lowest j l) ∙ e)))
       go (nothing n) = both (λ k h e. absurd (full k h (sym e ∙ empty n))) (λ e. n)
 
@@ -210,7 +221,9 @@ module _ (paths : ℕ → List Path) (present : ℕ → Bool) (shaped : Shaped p
   abbrev speaker : ℕ
   speaker = p .speaker
 
-  stored : (n : ℕ) → byteFor paths speaker (choice paths heard speaker) ≡ n → getD (step paths heard p) (64 * p .listener + speaker) 0 ≡ n
+  stored : (n : ℕ)
+      → byteFor paths speaker (choice paths heard speaker) ≡ n
+      → getD (step paths heard p) (64 * p .listener + speaker) 0 ≡ n
   unfolding offsetOf
   stored n e = step-here paths heard p room ∙ e
 
@@ -221,7 +234,8 @@ module _ (paths : ℕ → List Path) (present : ℕ → Bool) (shaped : Shaped p
       record {
         size = step-length paths heard p;
         elsewhere = step-there paths heard p;
-        destination = λ z. stored 1 (byte-destination paths speaker _ z (ap (choice paths heard) z ∙ choice-destination paths heard));
+        destination = λ z. stored 1 (byte-destination paths speaker _ z
+            (ap (choice paths heard) z ∙ choice-destination paths heard));
         rank = λ z k l. stored (suc k)
             (byte-other paths speaker _ z
             ∙ ap (rankIn paths speaker) (exact-choice paths present shaped heard speaker z .chosen k (l .holds .under) .1 l)

@@ -65,7 +65,11 @@ module _ {A : Type 0} (test : ℕ → A → Bool) (d : A) where
 
   -- one element more in front, which fails
   module _ (x : A) (xs : List A) (i : ℕ) (q : test i x ≡ false) where
-    fails-on : (n : ℕ) → ((k : ℕ) → k < n → passes xs (suc i) k ≡ false) → (k : ℕ) → k < suc n → passes (x ∷ xs) i k ≡ false
+    fails-on : (n : ℕ)
+        → ((k : ℕ) → k < n → passes xs (suc i) k ≡ false)
+        → (k : ℕ)
+        → k < suc n
+        → passes (x ∷ xs) i k ≡ false
     fails-on n f zero h = let z : i + 0 ≡ i = omega arith in rw z q
     fails-on n f (suc k) h = let z : i + suc k ≡ suc i + k = omega arith in rw z (f k (omega arith))
 
@@ -80,7 +84,8 @@ module _ {A : Type 0} (test : ℕ → A → Bool) (d : A) where
   seek (x ∷ xs) i =
       let z : i + 0 ≡ i = omega arith in
       by-test (test i x)
-      (λ q. somewhere 0 (first-in-hit test i x xs q ∙ ap some (sym z)) (omega arith) (rw z q) (λ j h. absurd (not-suc-le-zero h)))
+      (λ q. somewhere 0 (first-in-hit test i x xs q ∙ ap some (sym z)) (omega arith) (rw z q)
+      (λ j h. absurd (not-suc-le-zero h)))
       (λ q. seek-on x xs i q (seek xs (suc i)))
 
   -- where the test passes exactly the places of a kind, the search tells the lowest
@@ -124,7 +129,8 @@ module _ (paths : ℕ → List Path) where
   listens-exactly v u = (
     λ e. let r = some-at (λ p. eqb (nextHop p) u) (paths v) [] e in
         record { place = r .0; within = r .1; second = eqb-true (nextHop (getD (paths v) (r .0) [])) u (r .2) },
-    λ l. any-at (λ p. eqb (nextHop p) u) (paths v) [] (l .place) (l .within) (eq-eqb (nextHop (getD (paths v) (l .place) [])) u (l .second)),
+    λ l. any-at (λ p. eqb (nextHop p) u) (paths v) [] (l .place) (l .within)
+        (eq-eqb (nextHop (getD (paths v) (l .place) [])) u (l .second)),
   )
 
   silent : (v u : ℕ) → listens paths v u ≡ false → ListensAmong paths v u → ⊥
@@ -165,12 +171,14 @@ module _ (paths : ℕ → List Path) where
     unfolding badByte badAt listensAt
     wrong-bad n w =
         rw (ne-eqb b 0 n, badAt)
-        (⊎-elim (λ f. or-left (not (listensAt paths k)) (ltb (length (speaks paths (k % 64))) b) (ap not (is-silent (k / 64) (k % 64) f)))
+        (⊎-elim (λ f. or-left (not (listensAt paths k)) (ltb (length (speaks paths (k % 64))) b)
+        (ap not (is-silent (k / 64) (k % 64) f)))
         (λ h. or-right (not (listensAt paths k)) (ltb (length (speaks paths (k % 64))) b)
         (lt-ltb (length (speaks paths (k % 64))) b (is-high (k % 64) b h))) w)
 
   -- 12: the place is exactly the lowest bad offset, and there is none exactly where the heard state is valid
-  pub heard-exactly : (heard : List ℕ) → Tells (heardFault paths heard) (BadByte (ListensAmong paths) (λ u. length (paths u)) heard)
+  pub heard-exactly : (heard : List ℕ)
+      → Tells (heardFault paths heard) (BadByte (ListensAmong paths) (λ u. length (paths u)) heard)
   unfolding heardFault
   heard-exactly heard =
       search-tells (badByte paths) 0 heard (BadByte (ListensAmong paths) (λ u. length (paths u)) heard) (λ k p. p .under)
@@ -178,7 +186,8 @@ module _ (paths : ℕ → List Path) where
       (λ k p. wrong-bad k (getD heard k 0) (p .something) (p .wrong))
 
   -- 14: the place is exactly the lowest pair that does not listen
-  pub pairs-exactly : (schedule : List ℕ) → Tells (firstBadPair paths (pairsIn schedule)) (BadPair (ListensAmong paths) schedule)
+  pub pairs-exactly : (schedule : List ℕ)
+      → Tells (firstBadPair paths (pairsIn schedule)) (BadPair (ListensAmong paths) schedule)
   unfolding firstBadPair
   pairs-exactly s =
       search-tells (λ i p. not (listens paths (p .listener) (p .speaker))) noPair (pairsIn s) (BadPair (ListensAmong paths) s)
@@ -194,7 +203,8 @@ pub paths-number : (t : List ℕ) (u : ℕ) → length (pathsOf t u) ≡ records
 unfolding pathsOf pathsBelow owned records
 paths-number t u =
     length-map (owned t (records t) u) (pathAt t) ∙ those-count (λ i. eqb (ownerAt t i) u) (records t)
-    ∙ count-ext (λ i. eqb (ownerAt t i) u) (λ i. eqb (ownerByte t i) u) (records t) (λ k h. ap (λ (v : ℕ). eqb v u) (owner-is t k))
+    ∙ count-ext (λ i. eqb (ownerAt t i) u) (λ i. eqb (ownerByte t i) u) (records t)
+    (λ k h. ap (λ (v : ℕ). eqb v u) (owner-is t k))
 
 module _ (t : List ℕ) (e : refusal t ≡ none) where
   -- the second vertex of a record's path
@@ -228,12 +238,14 @@ module _ (t : List ℕ) (e : refusal t ≡ none) where
         record {
           place = k;
           within = omega (arith, paths-length t e v);
-          second = ap (λ (p : Path). getD p 1 0) (path-in-block t e v k m ∙ ap (pathAt t) z) ∙ second-is i (l .within) ∙ l .second;
+          second = ap (λ (p : Path). getD p 1 0) (path-in-block t e v k m ∙ ap (pathAt t) z) ∙ second-is i (l .within)
+              ∙ l .second;
         }
 
     -- v listens to u exactly where some record of v has u as its second vertex
     pub table-listens : (listens (pathsOf t) v u ≡ true) ↔ ListensIn t v u
-    table-listens = (λ q. among-in (listens-exactly (pathsOf t) v u .0 q), λ l. listens-exactly (pathsOf t) v u .1 (in-among l))
+    table-listens =
+        (λ q. among-in (listens-exactly (pathsOf t) v u .0 q), λ l. listens-exactly (pathsOf t) v u .1 (in-among l))
 
 -- a byte that is bad is bad where the same listen and have as many records
 bad-as : (L M : ℕ → ℕ → Type 0) (n m : ℕ → ℕ) (heard : List ℕ)
@@ -249,8 +261,8 @@ bad-as L M n m heard f e k b =
       wrong = ⊎-map (λ s l. s (f (k / 64) (k % 64) l)) (⊎-map (λ h. h) (λ h. (h .0, rw (e (k % 64)) at (h .1)))) (b .wrong);
     }
 
--- The statement: what the refusals 12 and 14 of an accepted table tell, in both directions, over the bytes of the table, the heard state and
--- the schedule.
+-- The statement: what the refusals 12 and 14 of an accepted table tell, in both directions, over the bytes of the
+-- table, the heard state and the schedule.
 pub record ExactPlaces (t heard schedule : List ℕ) : Type 0 where
   pub offset : Tells (heardFault (pathsOf t) heard) (BadByte (ListensIn t) (recordsOf t) heard)
   pub pair : Tells (firstBadPair (pathsOf t) (pairsIn schedule)) (BadPair (ListensIn t) schedule)
@@ -260,7 +272,8 @@ pub exact-places : (t heard schedule : List ℕ) → refusal t ≡ none → Exac
 exact-places t heard schedule e =
     record {
       offset = tells-same _ _ _
-          (bad-as (ListensAmong (pathsOf t)) (ListensIn t) (λ u. length (pathsOf t u)) (recordsOf t) heard (in-among t e) (paths-number t))
+          (bad-as (ListensAmong (pathsOf t)) (ListensIn t) (λ u. length (pathsOf t u)) (recordsOf t) heard
+          (in-among t e) (paths-number t))
           (bad-as (ListensIn t) (ListensAmong (pathsOf t)) (recordsOf t) (λ u. length (pathsOf t u)) heard (among-in t e)
           (λ u. sym (paths-number t u)))
           (heard-exactly (pathsOf t) heard);

@@ -86,7 +86,8 @@ module _ (next : ℕ → ℕ) (v : ℕ) where
 -- two numbers that are the lowest of a kind are one
 lowest-one : (P : ℕ → Type 0) (a b : ℕ) → Lowest P a → Lowest P b → a ≡ b
 lowest-one P a b f g =
-    by-less a b (λ l. absurd (g .lowest a l (f .holds))) (λ l. by-less b a (λ k. absurd (f .lowest b k (g .holds))) (λ k. omega arith))
+    by-less a b (λ l. absurd (g .lowest a l (f .holds)))
+    (λ l. by-less b a (λ k. absurd (f .lowest b k (g .holds))) (λ k. omega arith))
 
 -- the round from the ring's beginning on is lowest there
 low-at : (stuck : ℕ → Bool) (next : ℕ → ℕ) (r : List ℕ) (m : RingMet stuck next r) (k : ℕ)
@@ -105,12 +106,15 @@ module _ (stuck : ℕ → Bool) (next : ℕ → ℕ) where
       let s : g .start ≡ v = lowest-one _ (g .start) v (g .lowest) (f .lowest) in
       let closes : after next (g .entered + length q) v ≡ after next (g .entered) v = rw s at (g .closes) in
       let apart : Apart next (g .entered + length q) v = rw s at (g .apart) in
-      let e = same-entry next v (f .entered) (length r) (g .entered) (length q) (f .two) (g .two) (f .closes) closes (f .apart) apart in
-      let d = same-end next v (f .entered) (length r) (g .entered) (length q) (f .two) (g .two) (f .closes) closes (f .apart) apart in
+      let e = same-entry next v (f .entered) (length r) (g .entered) (length q) (f .two) (g .two) (f .closes) closes
+      (f .apart) apart in
+      let d = same-end next v (f .entered) (length r) (g .entered) (length q) (f .two) (g .two) (f .closes) closes
+      (f .apart) apart in
       let n : length r ≡ length q = omega arith in
       let low : (k : ℕ) → k < length r → after next (f .entered + g .turned) v ≤ after next (f .entered + g .turned + k) v
       = λ k h. rw (e, ← s) (low-at stuck next q g k (omega arith)) in
-      let t = same-turn next v (f .entered) (length r) (f .closes) (f .apart) (f .turned) (g .turned) (f .round) (omega (arith, g .round))
+      let t = same-turn next v (f .entered) (length r) (f .closes) (f .apart) (f .turned) (g .turned) (f .round)
+      (omega (arith, g .round))
       (low-at stuck next r f) low in
       ext-getD 0 r q n (λ k h. rw (f .order k h, g .order k (omega arith), s, e, t))
 
@@ -122,11 +126,13 @@ module _ (stuck : ℕ → Bool) (next : ℕ → ℕ) where
         by-option (firstFrom stuck 0 64)
         (λ e. absurd (true≢ s (first-none stuck 0 64 e v (omega arith) (w .range v s))))
         (λ u e. let f = first-found stuck 0 64 u e in
-        let low : Lowest (λ x. stuck x ≡ true) u = record { holds = f .passes; lowest = λ j h q. true≢ q (f .earliest j (omega arith) h) } in
+        let low : Lowest (λ x. stuck x ≡ true) u = record
+        { holds = f .passes; lowest = λ j h q. true≢ q (f .earliest j (omega arith) h) } in
         let ring : Ring stuck next (turned (closedPart next 65 [] u)) = rw (e, ringFrom) at (ring-from stuck next w v s) in
         rw (e, ringFrom) (ring-met stuck next w u low ring))
 
-    -- The theorem: where some vertex is stuck, the ring is exactly the list that the walk from the lowest stuck vertex closes to.
+    -- The theorem: where some vertex is stuck, the ring is exactly the list that the walk from the lowest stuck vertex
+    -- closes to.
     pub exact-ring : (r : List ℕ) → (ringFrom stuck next ≡ r) ↔ RingMet stuck next r
     exact-ring r = (λ e. rw e at there, λ m. ring-one (ringFrom stuck next) r there m)
 

@@ -1,7 +1,8 @@
--- Each test of a record is exactly the plain rule with its number, and a record's fault is the number of the first rule that it breaks.
-use mathlib.Core.Path.{_≡_, refl, sym, ap, _∙_}
+-- Each test of a record is exactly the plain rule with its number, and a record's fault is the number of the first rule
+-- that it breaks.
+use mathlib.Core.Path.{_≡_, refl, sym, ap, subst, _∙_}
 use mathlib.Core.Logic.{_≢_}
-use mathlib.Core.Bool.{Bool, false, not}
+use mathlib.Core.Bool.{Bool, true, false, not}
 use mathlib.Core.List.{List, [], _∷_}
 use Prim.Native.Nat.{ℕ, zero, suc, _+_, _-_, _*_, _<_, _≤_, min}
 use native.Mathlib.Omega.{arith}
@@ -22,7 +23,8 @@ use Rattle.laws.specs.Plain.{byteAt, rankByte, hopsByte, vertexByte, own
 none-in : {A : Type 0} (test : A → Bool) (l : List A) (d : A)
     → ((k : ℕ) → k < length l → test (getD l k d) ≡ false)
     → anyIn test l ≡ false
-none-in test l d f = by-test (anyIn test l) (λ q. let r = some-at test l d q in absurd (true≢ (r .2) (f (r .0) (r .1)))) (λ q. q)
+none-in test l d f =
+    by-test (anyIn test l) (λ q. let r = some-at test l d q in absurd (true≢ (r .2) (f (r .0) (r .1)))) (λ q. q)
 
 -- the bytes of a record, read through the definitions
 
@@ -51,6 +53,10 @@ module _ (t : List ℕ) (i : ℕ) where
 
 -- what keeps a rule keeps to it under its number
 
+-- one statement at a number and another elsewhere
+abbrev cases : ℕ → ℕ → Type 0 → Type 0 → Type 0
+cases n m here elsewhere = elim (eqb n m) [ true ↦ here | false ↦ elsewhere ]
+
 module _ (t : List ℕ) (i : ℕ) where
   -- a number that is none of the page's for a record
   keeps-other : (n : ℕ) → (4 ≤ n → n ≤ 11 → ⊥) → Keeps t i n
@@ -66,108 +72,24 @@ module _ (t : List ℕ) (i : ℕ) where
         path = λ e. absurd (f (omega arith) (omega arith));
       }
 
-  keeps-4 : HopsRight t i → Keeps t i 4
-  keeps-4 h =
-      record {
-        hops = λ e. h;
-        vertices = λ e. absurd (omega arith);
-        unused = λ e. absurd (omega arith);
-        once = λ e. absurd (omega arith);
-        last = λ e. absurd (omega arith);
-        owner = λ e. absurd (omega arith);
-        rank = λ e. absurd (omega arith);
-        path = λ e. absurd (omega arith);
-      }
+  -- what the rule with the page's number n says
+  abbrev Right : ℕ → Type 0
+  Right n =
+      cases n 4 (HopsRight t i) (cases n 5 (VerticesRight t i) (cases n 6 (UnusedRight t i) (cases n 7 (OnceEach t i)
+      (cases n 8 (LastRight t i) (cases n 9 (OwnerRight t i) (cases n 10 (RankRight t i) (PathNew t i)))))))
 
-  keeps-5 : VerticesRight t i → Keeps t i 5
-  keeps-5 h =
+  -- a record that keeps the one rule with a number keeps all with that number
+  keeps-right : (n : ℕ) → Right n → Keeps t i n
+  keeps-right n h =
       record {
-        hops = λ e. absurd (omega arith);
-        vertices = λ e. h;
-        unused = λ e. absurd (omega arith);
-        once = λ e. absurd (omega arith);
-        last = λ e. absurd (omega arith);
-        owner = λ e. absurd (omega arith);
-        rank = λ e. absurd (omega arith);
-        path = λ e. absurd (omega arith);
-      }
-
-  keeps-6 : UnusedRight t i → Keeps t i 6
-  keeps-6 h =
-      record {
-        hops = λ e. absurd (omega arith);
-        vertices = λ e. absurd (omega arith);
-        unused = λ e. h;
-        once = λ e. absurd (omega arith);
-        last = λ e. absurd (omega arith);
-        owner = λ e. absurd (omega arith);
-        rank = λ e. absurd (omega arith);
-        path = λ e. absurd (omega arith);
-      }
-
-  keeps-7 : OnceEach t i → Keeps t i 7
-  keeps-7 h =
-      record {
-        hops = λ e. absurd (omega arith);
-        vertices = λ e. absurd (omega arith);
-        unused = λ e. absurd (omega arith);
-        once = λ e. h;
-        last = λ e. absurd (omega arith);
-        owner = λ e. absurd (omega arith);
-        rank = λ e. absurd (omega arith);
-        path = λ e. absurd (omega arith);
-      }
-
-  keeps-8 : LastRight t i → Keeps t i 8
-  keeps-8 h =
-      record {
-        hops = λ e. absurd (omega arith);
-        vertices = λ e. absurd (omega arith);
-        unused = λ e. absurd (omega arith);
-        once = λ e. absurd (omega arith);
-        last = λ e. h;
-        owner = λ e. absurd (omega arith);
-        rank = λ e. absurd (omega arith);
-        path = λ e. absurd (omega arith);
-      }
-
-  keeps-9 : OwnerRight t i → Keeps t i 9
-  keeps-9 h =
-      record {
-        hops = λ e. absurd (omega arith);
-        vertices = λ e. absurd (omega arith);
-        unused = λ e. absurd (omega arith);
-        once = λ e. absurd (omega arith);
-        last = λ e. absurd (omega arith);
-        owner = λ e. h;
-        rank = λ e. absurd (omega arith);
-        path = λ e. absurd (omega arith);
-      }
-
-  keeps-10 : RankRight t i → Keeps t i 10
-  keeps-10 h =
-      record {
-        hops = λ e. absurd (omega arith);
-        vertices = λ e. absurd (omega arith);
-        unused = λ e. absurd (omega arith);
-        once = λ e. absurd (omega arith);
-        last = λ e. absurd (omega arith);
-        owner = λ e. absurd (omega arith);
-        rank = λ e. h;
-        path = λ e. absurd (omega arith);
-      }
-
-  keeps-11 : PathNew t i → Keeps t i 11
-  keeps-11 h =
-      record {
-        hops = λ e. absurd (omega arith);
-        vertices = λ e. absurd (omega arith);
-        unused = λ e. absurd (omega arith);
-        once = λ e. absurd (omega arith);
-        last = λ e. absurd (omega arith);
-        owner = λ e. absurd (omega arith);
-        rank = λ e. absurd (omega arith);
-        path = λ e. h;
+        hops = λ e. subst Right e h;
+        vertices = λ e. subst Right e h;
+        unused = λ e. subst Right e h;
+        once = λ e. subst Right e h;
+        last = λ e. subst Right e h;
+        owner = λ e. subst Right e h;
+        rank = λ e. subst Right e h;
+        path = λ e. subst Right e h;
       }
 
 -- a test that fails exactly where record i keeps rule n
@@ -182,16 +104,17 @@ module _ (t : List ℕ) (i : ℕ) where
   unfolding hopsBad
   says-4 =
       record {
-        keeps = λ e. let x = inside 1 12 (hopsAt t i) e in keeps-4 t i (omega (arith, hops-is t i));
-        fails = λ k. let h = k .hops refl in is-inside 1 12 (hopsAt t i) (omega (arith, hops-is t i)) (omega (arith, hops-is t i));
+        keeps = λ e. let x = inside 1 12 (hopsAt t i) e in keeps-right t i 4 (omega (arith, hops-is t i));
+        fails = λ k. let h = k .hops refl in is-inside 1 12 (hopsAt t i) (omega (arith, hops-is t i))
+            (omega (arith, hops-is t i));
       }
 
 says-9 : (t : List ℕ) (i : ℕ) → Says t i 9 (ownerBad t i)
 unfolding ownerBad
-says-9 t zero = record { keeps = λ e. keeps-9 t 0 (λ j h. absurd (omega arith)); fails = λ k. refl }
+says-9 t zero = record { keeps = λ e. keeps-right t 0 9 (λ j h. absurd (omega arith)); fails = λ k. refl }
 says-9 t (suc i) =
     record {
-      keeps = λ e. keeps-9 t (suc i) (λ j h. let q : i ≡ j = omega arith in
+      keeps = λ e. keeps-right t (suc i) 9 (λ j h. let q : i ≡ j = omega arith in
           rw (← q, ← (owner-is t i), ← (owner-is t (suc i))) (ltb-false (ownerAt t (suc i)) (ownerAt t i) e));
       fails = λ k. le-ltb (ownerAt t (suc i)) (ownerAt t i) (rw (owner-is t i, owner-is t (suc i)) (k .owner refl i refl));
     }
@@ -228,7 +151,7 @@ unfolding rankBad
 says-10 t i =
     record {
       keeps = λ e. let r = or-none (ltb 16 (rankAt t i)) (not (eqb (rankAt t i) (rankDue t i))) e in
-          keeps-10 t i (due-right t i (rw (rank-is t i) at (ltb-false 16 (rankAt t i) (r .0)))
+          keeps-right t i 10 (due-right t i (rw (rank-is t i) at (ltb-false 16 (rankAt t i) (r .0)))
           (rw (rank-is t i) at (eqb-true (rankAt t i) (rankDue t i) (not-false _ (r .1)))));
       fails = λ k. let r = k .rank refl in
           neither (ltb 16 (rankAt t i)) _ (le-ltb 16 (rankAt t i) (rw (rank-is t i) (r .most)))
@@ -256,7 +179,7 @@ module _ (t : List ℕ) (i : ℕ) (h : i < records t) (small : hopsByte t i ≤ 
   unfolding vertexBad
   says-5 =
       record {
-        keeps = λ e. keeps-5 t i (λ k l. rw (← (vertex k l))
+        keeps = λ e. keeps-right t i 5 (λ k l. rw (← (vertex k l))
             (inside 0 63 (getD (pathAt t i) k 0) (none-at (outside 0 63) (pathAt t i) 0 e k (omega (arith, path-length))) .1));
         fails = λ r. none-in (outside 0 63) (pathAt t i) 0 (λ k l. let m : k ≤ hopsByte t i = omega (arith, path-length) in
             is-inside 0 63 (getD (pathAt t i) k 0) (omega arith) (rw (vertex k m) (r .vertices refl k m)));
@@ -277,7 +200,10 @@ module _ (t : List ℕ) (i : ℕ) (h : i < records t) (small : hopsByte t i ≤ 
       ∙ ap (λ (n : ℕ). byteAt t i (3 + n + k)) (hops-is t i)
 
   -- they are the bytes from behind the vertices to byte 14
-  unused-at : (k : ℕ) → 3 + hopsByte t i ≤ k → k ≤ 14 → getD (unusedOf (recordAt t i)) (k - (3 + hopsByte t i)) 0 ≡ byteAt t i k
+  unused-at : (k : ℕ)
+      → 3 + hopsByte t i ≤ k
+      → k ≤ 14
+      → getD (unusedOf (recordAt t i)) (k - (3 + hopsByte t i)) 0 ≡ byteAt t i k
   unused-at k lo hi =
       let z : 3 + hopsByte t i + (k - (3 + hopsByte t i)) ≡ k = omega arith in
       unused-byte (k - (3 + hopsByte t i)) (omega arith) ∙ ap (byteAt t i) z
@@ -290,7 +216,7 @@ module _ (t : List ℕ) (i : ℕ) (h : i < records t) (small : hopsByte t i ≤ 
       let end-is = byte t i 15 (omega arith) in
       record {
         keeps = λ e. let r = or-none any (outside 0 0 end) e in
-            keeps-6 t i (record {
+            keeps-right t i 6 (record {
               filled = λ k lo hi. let n = k - (3 + hopsByte t i) in
                   let x = inside 255 255 (getD (unusedOf (recordAt t i)) n 0)
                   (none-at (outside 255 255) (unusedOf (recordAt t i)) 0 (r .0) n (omega (arith, unused-length))) in
@@ -299,9 +225,11 @@ module _ (t : List ℕ) (i : ℕ) (h : i < records t) (small : hopsByte t i ≤ 
             });
         fails = λ r. let u = r .unused refl in
             neither any (outside 0 0 end)
-            (none-in (outside 255 255) (unusedOf (recordAt t i)) 0 (λ k l. let m : k < 12 - hopsByte t i = omega (arith, unused-length) in
+            (none-in (outside 255 255) (unusedOf (recordAt t i)) 0
+            (λ k l. let m : k < 12 - hopsByte t i = omega (arith, unused-length) in
             let x = u .filled (3 + hopsByte t i + k) (omega arith) (omega arith) in
-            is-inside 255 255 (getD (unusedOf (recordAt t i)) k 0) (omega (arith, unused-byte k m)) (omega (arith, unused-byte k m))))
+            is-inside 255 255 (getD (unusedOf (recordAt t i)) k 0) (omega (arith, unused-byte k m))
+            (omega (arith, unused-byte k m))))
             (is-inside 0 0 end (omega arith) (omega (arith, u .end)));
       }
 
@@ -309,7 +237,7 @@ module _ (t : List ℕ) (i : ℕ) (h : i < records t) (small : hopsByte t i ≤ 
   unfolding twiceBad
   says-7 =
       record {
-        keeps = λ e. keeps-7 t i (λ j k l m q. twice-apart (pathAt t i) e j k l (omega (arith, path-length))
+        keeps = λ e. keeps-right t i 7 (λ j k l m q. twice-apart (pathAt t i) e j k l (omega (arith, path-length))
             (vertex j (omega arith) ∙ q ∙ sym (vertex k m)));
         fails = λ r. apart-twice (pathAt t i) (λ j k l m q. let n : k ≤ hopsByte t i = omega (arith, path-length) in
             r .once refl j k l n (sym (vertex j (omega arith)) ∙ q ∙ vertex k n));
@@ -323,7 +251,7 @@ module _ (t : List ℕ) (i : ℕ) (h : i < records t) (small : hopsByte t i ≤ 
   says-8 =
       let b = getD (recordAt t i) (2 + hopsAt t i) 0 in
       record {
-        keeps = λ e. keeps-8 t i (let x = inside 0 0 b e in omega (arith, last-is));
+        keeps = λ e. keeps-right t i 8 (let x = inside 0 0 b e in omega (arith, last-is));
         fails = λ r. is-inside 0 0 b (omega arith) (omega (arith, last-is, r .last refl));
       }
 
@@ -336,7 +264,8 @@ module _ (t : List ℕ) (i : ℕ) (h : i < records t) (small : hopsByte t i ≤ 
     path-same e =
         record {
           hops = same-hops e;
-          vertices = λ k m. sym (vertex-is t j k (omega (arith, same-hops e)) (omega arith)) ∙ ap (λ (p : Path). getD p k 0) e ∙ vertex k m;
+          vertices = λ k m. sym (vertex-is t j k (omega (arith, same-hops e)) (omega arith)) ∙ ap
+              (λ (p : Path). getD p k 0) e ∙ vertex k m;
         }
 
     same-path : SamePath t j i → pathAt t j ≡ pathAt t i
@@ -350,8 +279,10 @@ module _ (t : List ℕ) (i : ℕ) (h : i < records t) (small : hopsByte t i ≤ 
   says-11 =
       let test : ℕ → Bool = λ j. same (pathAt t j) (pathAt t i) in
       record {
-        keeps = λ e. keeps-11 t i (λ j l s. differs (pathAt t j) (pathAt t i) (none-below test i e j l) (same-path j (omega arith) s));
-        fails = λ r. all-fail test i (λ j l. differ (pathAt t j) (pathAt t i) (λ e. r .path refl j l (path-same j (omega arith) e)));
+        keeps = λ e. keeps-right t i 11 (λ j l s. differs (pathAt t j) (pathAt t i) (none-below test i e j l)
+            (same-path j (omega arith) s));
+        fails = λ r. all-fail test i (λ j l. differ (pathAt t j) (pathAt t i)
+            (λ e. r .path refl j l (path-same j (omega arith) e)));
       }
 
 -- a walk through the rules, with the page's numbers in order: none is broken, or rule n is the first that is

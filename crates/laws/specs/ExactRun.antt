@@ -1,5 +1,5 @@
--- Exactness of the run's numbers: the last change is exactly the greatest step that changed a choice, and the ups and downs are exactly the
--- steps after which their listener stands higher and lower.
+-- Exactness of the run's numbers: the last change is exactly the greatest step that changed a choice, and the ups and
+-- downs are exactly the steps after which their listener stands higher and lower.
 use mathlib.Core.Path.{_≡_, refl, sym, ap, _∙_}
 use mathlib.Core.Logic.{_≢_, _↔_}
 use mathlib.Core.Bool.{Bool, true, false}
@@ -78,7 +78,10 @@ difference-down a b =
     (λ l. let e : b ≡ a = omega arith in rw e (ap isDown (+ℤ-invr (pos a)) ∙ sym (le-ltb a a (omega arith)))))
 
 -- one more where the test holds, as a count goes
-more-count : (test : ℕ → Bool) (b : Bool) (n y : ℕ) → b ≡ test n → y ≡ countBelow test n → more b y ≡ countBelow test (suc n)
+more-count : (test : ℕ → Bool) (b : Bool) (n y : ℕ)
+    → b ≡ test n
+    → y ≡ countBelow test n
+    → more b y ≡ countBelow test (suc n)
 unfolding more
 more-count test true n y e q = rw q (sym (count-in test n (sym e)))
 more-count test false n y e q = q ∙ sym (count-out test n (sym e))
@@ -97,17 +100,22 @@ module _ (paths : ℕ → List Path) (heard : List ℕ) (s : List Pair) where
   tally-none = refl
 
   -- one pair more
-  tally-next : (k : ℕ) → k < length s → tallyAfter (suc k) ≡ activated paths (listeningOffsets paths) (tallyAfter k) (getD s k noPair)
+  tally-next : (k : ℕ)
+      → k < length s
+      → tallyAfter (suc k) ≡ activated paths (listeningOffsets paths) (tallyAfter k) (getD s k noPair)
   unfolding run
   tally-next k h =
       let pairs = listeningOffsets paths in
-      ap (λ (n : ℕ). run paths heard (take n s)) (sym (add-one k)) ∙ fold-more (activated paths pairs) (begun heard) s k noPair h
+      ap (λ (n : ℕ). run paths heard (take n s)) (sym (add-one k)) ∙ fold-more (activated paths pairs)
+      (begun heard) s k noPair h
 
   state-none : stateAfter paths heard s 0 ≡ heard
   unfolding begun
   state-none = ap (λ (y : Tally). y .heard) tally-none
 
-  state-next : (k : ℕ) → k < length s → stateAfter paths heard s (suc k) ≡ step paths (stateAfter paths heard s k) (getD s k noPair)
+  state-next : (k : ℕ)
+      → k < length s
+      → stateAfter paths heard s (suc k) ≡ step paths (stateAfter paths heard s k) (getD s k noPair)
   unfolding activated
   state-next k h = ap (λ (y : Tally). y .heard) (tally-next k h)
 
@@ -115,14 +123,18 @@ module _ (paths : ℕ → List Path) (heard : List ℕ) (s : List Pair) where
   steps-after k h = run-steps paths heard (take k s) ∙ length-take k s ∙ omega arith
 
   -- its movement goes up or down as its listener's standing does
-  pub up-is : (k : ℕ) → k < length s → isUp (movement paths (stateAfter paths heard s k) (getD s k noPair)) ≡ rises paths heard s k
+  pub up-is : (k : ℕ)
+      → k < length s
+      → isUp (movement paths (stateAfter paths heard s k) (getD s k noPair)) ≡ rises paths heard s k
   unfolding movement
   up-is k h =
       let v = listenerAt paths heard s k in
       let now = stateAfter paths heard s k in
       rw (state-next k h) (difference-up (standing paths now v) (standing paths (step paths now (getD s k noPair)) v))
 
-  pub down-is : (k : ℕ) → k < length s → isDown (movement paths (stateAfter paths heard s k) (getD s k noPair)) ≡ falls paths heard s k
+  pub down-is : (k : ℕ)
+      → k < length s
+      → isDown (movement paths (stateAfter paths heard s k) (getD s k noPair)) ≡ falls paths heard s k
   unfolding movement
   down-is k h =
       let v = listenerAt paths heard s k in
@@ -180,7 +192,9 @@ module _ (paths : ℕ → List Path) (heard : List ℕ) (s : List Pair) where
         record { from = omega arith; within = h; other = rw z (differs _ _ q) }
 
     last-next : Last k → Last (suc k)
-    last-next l = by-test kept (λ q. same-last q l) (λ q. lately (suc k) (change-next ∙ rw q) (other-changes q) (λ j a b. absurd (omega arith)))
+    last-next l =
+        by-test kept (λ q. same-last q l)
+        (λ q. lately (suc k) (change-next ∙ rw q) (other-changes q) (λ j a b. absurd (omega arith)))
       where
         same-last : kept ≡ true → Last k → Last (suc k)
         same-last q (never e f) =

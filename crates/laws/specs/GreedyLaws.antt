@@ -1,4 +1,5 @@
--- Laws of the greedy stages: what a stage keeps and adds, how a vertex came to be settled, which stages count, and when each vertex settled.
+-- Laws of the greedy stages: what a stage keeps and adds, how a vertex came to be settled, which stages count, and when
+-- each vertex settled.
 use mathlib.Core.Path.{_≡_, refl, sym, ap, _∙_, fun-ext}
 use mathlib.Core.Logic.{_≢_, _⊎_, inl, inr, ⊎-map}
 use mathlib.Core.Bool.{Bool, true, false, not}
@@ -56,7 +57,9 @@ module _ (paths : ℕ → List Path) (present : ℕ → Bool) where
   settled-zero v h = tabulate-at atStart 64 v none h
 
   -- each stage judges against what the stage before left
-  pub settled-suc : (k v : ℕ) → v < 64 → settled paths present (suc k) v ≡ stage paths present (settled paths present k) v
+  pub settled-suc : (k v : ℕ)
+      → v < 64
+      → settled paths present (suc k) v ≡ stage paths present (settled paths present k) v
   unfolding settled settledList
   settled-suc k v h = tabulate-at (stage paths present (settled paths present k)) 64 v none h
 
@@ -79,7 +82,10 @@ module _ (paths : ℕ → List Path) (present : ℕ → Bool) where
   stage-keeps S v p e = rw (e, stage)
 
   -- it judges a present unsettled vertex, and no other
-  pub stage-judges : (S : Settled) (v : ℕ) → S v ≡ none → present v ≡ true → stage paths present S v ≡ judged S (best paths S v)
+  pub stage-judges : (S : Settled) (v : ℕ)
+      → S v ≡ none
+      → present v ≡ true
+      → stage paths present S v ≡ judged S (best paths S v)
   unfolding stage
   stage-judges S v e p = rw (e, p, stage)
 
@@ -88,10 +94,14 @@ module _ (paths : ℕ → List Path) (present : ℕ → Bool) where
   stage-absent S v e p = rw (e, p, stage)
 
   -- a settled vertex stays as it is
-  pub settled-stays : (k v : ℕ) (p : Path) → settled paths present k v ≡ some p → settled paths present (suc k) v ≡ some p
+  pub settled-stays : (k v : ℕ) (p : Path)
+      → settled paths present k v ≡ some p
+      → settled paths present (suc k) v ≡ some p
   settled-stays k v p e = settled-suc k v (settled-range k v p e) ∙ stage-keeps (settled paths present k) v p e
 
-  pub settled-later : (k n v : ℕ) (p : Path) → settled paths present k v ≡ some p → settled paths present (k + n) v ≡ some p
+  pub settled-later : (k n v : ℕ) (p : Path)
+      → settled paths present k v ≡ some p
+      → settled paths present (k + n) v ≡ some p
   settled-later k zero v p e = let z : k + 0 ≡ k = omega arith in rw z e
   settled-later k (suc n) v p e =
       let z : k + suc n ≡ suc (k + n) = omega arith in
@@ -222,7 +232,8 @@ module _ (paths : ℕ → List Path) (present : ℕ → Bool) where
         by-test (holds k)
         (λ q. rw (q, stagesFrom, firstFrom) (omega arith))
         (λ q. rw (q, stagesFrom, firstFrom)
-        (one-on k _ ∙ stages-from n (suc k) ∙ ap (λ (d : ℕ). elim (firstFrom holds (suc k) n) [ none ↦ d | some s ↦ s ]) (sym (one-on k n))))
+        (one-on k _ ∙ stages-from n (suc k) ∙ ap (λ (d : ℕ). elim (firstFrom holds (suc k) n) [ none ↦ d | some s ↦ s ])
+        (sym (one-on k n))))
 
     until-first : stagesUntil paths present test ≡ elim (firstFrom holds 0 64) [ none ↦ 64 | some s ↦ s ]
     unfolding stagesUntil settledList
@@ -329,7 +340,8 @@ module _ (paths : ℕ → List Path) (present : ℕ → Bool) where
   enters-counted k v p h e f =
       by-equal k (stageCount paths present)
       (λ q. absurd (none≢some (rw q at e)
-      (sym (settled-end 1 v) ∙ ap (λ (n : ℕ). settled paths present n v) (let z : stageCount paths present + 1 ≡ suc k = omega arith in z) ∙ f)))
+      (sym (settled-end 1 v) ∙ ap (λ (n : ℕ). settled paths present n v)
+      (let z : stageCount paths present + 1 ≡ suc k = omega arith in z) ∙ f)))
       (λ q. omega arith)
 
   -- the stage at which a vertex settled

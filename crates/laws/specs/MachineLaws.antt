@@ -48,7 +48,10 @@ best-same paths f g v e =
     first-same (extends f) (extends g) (paths v) (λ k h. ap (same (rest (getD (paths v) k []))) (e k h))
 
 -- whether the offset listens and how many paths its speaker has decide a bad byte
-pub bad-same : (f g : ℕ → Bool) (m n : ℕ → ℕ) (k b : ℕ) → f k ≡ g k → m (k % 64) ≡ n (k % 64) → badAt f m k b ≡ badAt g n k b
+pub bad-same : (f g : ℕ → Bool) (m n : ℕ → ℕ) (k b : ℕ)
+    → f k ≡ g k
+    → m (k % 64) ≡ n (k % 64)
+    → badAt f m k b ≡ badAt g n k b
 unfolding badAt
 bad-same f g m n k b d e = by-test (eqb b 0) (λ q. rw (q, badAt)) (λ q. rw (q, badAt, d, e))
 
@@ -74,20 +77,27 @@ module _ (paths : ℕ → List Path) where
   choice-destination heard = refl
 
   -- every other vertex takes the best given what it last heard
-  pub choice-other : (heard : List ℕ) (v : ℕ) → v ≢ 0 → choice paths heard v ≡ bestGiven paths (lastHeard paths heard v) v
+  pub choice-other : (heard : List ℕ) (v : ℕ)
+      → v ≢ 0
+      → choice paths heard v ≡ bestGiven paths (lastHeard paths heard v) v
   unfolding choice
   choice-other heard v h = rw (ne-eqb v 0 h, choice)
 
   -- a choice is none or what its vertex can speak of
-  pub choice-spoken : (heard : List ℕ) (u : ℕ) → (choice paths heard u ≡ []) ⊎ Stands (speaks paths u) (choice paths heard u)
+  pub choice-spoken : (heard : List ℕ) (u : ℕ)
+      → (choice paths heard u ≡ []) ⊎ Stands (speaks paths u) (choice paths heard u)
   unfolding bestGiven
   choice-spoken heard u =
       by-equal u 0
-      (λ q. rw (q, choice-destination heard, speaks-destination) (inr (record { place = 0; under = omega arith; there = refl })))
-      (λ q. rw (choice-other heard u q, speaks-other u q, bestGiven) (first-among (extends (lastHeard paths heard u)) (paths u)))
+      (λ q. rw (q, choice-destination heard, speaks-destination)
+      (inr (record { place = 0; under = omega arith; there = refl })))
+      (λ q. rw (choice-other heard u q, speaks-other u q, bestGiven)
+      (first-among (extends (lastHeard paths heard u)) (paths u)))
 
   -- what v last heard from u stands at 64v+u, where u is a vertex
-  pub heard-in : (heard : List ℕ) (v u : ℕ) → u < 64 → lastHeard paths heard v u ≡ pathFor paths u (getD heard (64 * v + u) 0)
+  pub heard-in : (heard : List ℕ) (v u : ℕ)
+      → u < 64
+      → lastHeard paths heard v u ≡ pathFor paths u (getD heard (64 * v + u) 0)
   unfolding lastHeard offsetOf
   heard-in heard v u h = rw (lt-ltb u 64 h, lastHeard, offsetOf)
 
@@ -111,7 +121,8 @@ module _ (paths : ℕ → List Path) where
     -- and nothing at any other offset
     pub step-there : (k : ℕ) → k ≢ offsetOf p → getD (step paths heard p) k 0 ≡ getD heard k 0
     unfolding step
-    step-there k h = getD-set-other heard (offsetOf p) k (byteFor paths (p .speaker) (choice paths heard (p .speaker))) 0 h
+    step-there k h =
+        getD-set-other heard (offsetOf p) k (byteFor paths (p .speaker) (choice paths heard (p .speaker))) 0 h
 
     -- after a step its listener last heard the speaker's choice from the speaker
     pub heard-new : length heard ≡ 4096
@@ -121,7 +132,8 @@ module _ (paths : ℕ → List Path) where
     unfolding offsetOf
     heard-new e l s =
         heard-in (step paths heard p) (p .listener) (p .speaker) s
-        ∙ rw (step-here (omega arith)) (byte-tells (p .speaker) (choice paths heard (p .speaker)) (choice-spoken heard (p .speaker)))
+        ∙ rw (step-here (omega arith)) (byte-tells (p .speaker) (choice paths heard (p .speaker))
+        (choice-spoken heard (p .speaker)))
 
     -- what any other pair last heard is as before
     pub heard-kept : p .speaker < 64
@@ -137,7 +149,10 @@ module _ (paths : ℕ → List Path) where
         (λ h. heard-out (step paths heard p) v u h ∙ sym (heard-out heard v u h))
 
     -- a step changes the choice of its listener alone
-    pub choice-kept : p .speaker < 64 → (v : ℕ) → v ≢ p .listener → choice paths (step paths heard p) v ≡ choice paths heard v
+    pub choice-kept : p .speaker < 64
+        → (v : ℕ)
+        → v ≢ p .listener
+        → choice paths (step paths heard p) v ≡ choice paths heard v
     choice-kept s v d =
         by-equal v 0
         (λ q. rw (q, choice-destination (step paths heard p), choice-destination heard))
@@ -146,7 +161,10 @@ module _ (paths : ℕ → List Path) where
         (λ k h. heard-kept s v (nextHop (getD (paths v) k [])) (λ e f. d e))))
 
     -- and its standing alone
-    pub standing-kept : p .speaker < 64 → (v : ℕ) → v ≢ p .listener → standing paths (step paths heard p) v ≡ standing paths heard v
+    pub standing-kept : p .speaker < 64
+        → (v : ℕ)
+        → v ≢ p .listener
+        → standing paths (step paths heard p) v ≡ standing paths heard v
     unfolding standing
     standing-kept s v d = rw (choice-kept s v d, standing)
 
@@ -164,7 +182,8 @@ module _ (paths : ℕ → List Path) where
       → badByte paths k b ≡ false
   unfolding badByte badAt listensAt
   byte-good k b l h =
-      by-test (eqb b 0) (λ q. rw (q, badByte, badAt)) (λ q. rw (q, badByte, badAt, l) (le-ltb (length (speaks paths (k % 64))) b h))
+      by-test (eqb b 0) (λ q. rw (q, badByte, badAt))
+      (λ q. rw (q, badByte, badAt, l) (le-ltb (length (speaks paths (k % 64))) b h))
 
   -- and nowhere else
   pub byte-fits : (k b : ℕ)
@@ -179,7 +198,9 @@ module _ (paths : ℕ → List Path) where
       (not-false heard (r .0), ltb-false most b (r .1))
 
   -- a pair is told by its offset
-  pub offset-listens : (p : Pair) → p .speaker < 64 → listensAt paths (offsetOf p) ≡ listens paths (p .listener) (p .speaker)
+  pub offset-listens : (p : Pair)
+      → p .speaker < 64
+      → listensAt paths (offsetOf p) ≡ listens paths (p .listener) (p .speaker)
   unfolding listensAt offsetOf
   offset-listens p s = rw (told-first (p .listener) (p .speaker) s, told-second (p .listener) (p .speaker) s)
 

@@ -22,8 +22,12 @@ use Rattle.laws.specs.MachineLaws.{speaks-destination, speaks-other}
 module _ (t : List ℕ) (i : ℕ) where
   -- the greatest hops
 
-  pub hops-more : (m h n : ℕ) → m ≡ maxBelow (hopsAt t) i → h ≡ hopsAt t i → n ≡ max m h → n ≡ maxBelow (hopsAt t) (i + 1)
-  hops-more m h n e f g = g ∙ rw (e, f, add-one) (sym (max-suc (hopsAt t) i))
+  pub hops-more : {m h n : ℕ}
+      → m ≡ maxBelow (hopsAt t) i
+      → h ≡ hopsAt t i
+      → n ≡ max m h
+      → n ≡ maxBelow (hopsAt t) (i + 1)
+  hops-more {m} {h} {n} e f g = g ∙ rw (e, f, add-one) (sym (max-suc (hopsAt t) i))
 
   -- the vertices that the records below i name
 
@@ -41,11 +45,11 @@ module _ (t : List ℕ) (i v : ℕ) where
   unfolding owned
   owned-out f = rw add-one (those-out (λ j. eqb (ownerAt t j) v) i (ne-eqb (ownerAt t i) v f))
 
-pub names-more : (t : List ℕ) (i : ℕ) (marks : List Bool) (p : List ℕ)
+pub names-more : (t : List ℕ) (i : ℕ) {marks : List Bool} {p : List ℕ}
     → marks ≡ tabulate (namedBelow t i) 64
     → p ≡ pathAt t i
     → marked marks p ≡ tabulate (namedBelow t (i + 1)) 64
-names-more t i marks p e f =
+names-more t i {marks} {p} e f =
     rw (e, f) (mark-list (namedBelow t i) (namedBelow t (i + 1)) 64 (pathAt t i)
     (λ v l. let names : ℕ → Bool = λ j. elem v (pathAt t j) in
     ap (λ (b : Bool). eqb v 0 || b) (ap (anyBelow names) (add-one i) ∙ any-below-suc names i) ∙ sym (or-assoc (eqb v 0) _ _)))
@@ -62,7 +66,7 @@ pub record Slotted (t : List ℕ) (n : ℕ) (slots : List (List ℕ)) (used : Li
   pub filled : slots ≡ slotsOf t n
   pub counted : used ≡ usedOf t n
 
-module _ (t : List ℕ) (i : ℕ) (slots : List (List ℕ)) (used : List ℕ) (s : Slotted t i slots used) where
+module _ {t : List ℕ} {i : ℕ} {slots : List (List ℕ)} {used : List ℕ} (s : Slotted t i slots used) where
   -- a record of an owner that is no vertex changes nothing
   pub slots-skip : 64 ≤ ownerAt t i → Slotted t (i + 1) slots used
   unfolding slotsOf usedOf
@@ -73,7 +77,7 @@ module _ (t : List ℕ) (i : ℕ) (slots : List (List ℕ)) (used : List ℕ) (s
         counted = s .counted ∙ tabulate-ext _ _ 64 (λ v l. ap (λ (o : List ℕ). min (length o) 16) (same v l));
       }
 
-  module _ (v : ℕ) (mine : v ≡ ownerAt t i) (small : v < 64) where
+  module _ {v : ℕ} (mine : v ≡ ownerAt t i) (small : v < 64) where
     used-at : getD used v 0 ≡ min (length (owned t i v)) 16
     unfolding usedOf
     used-at = rw (s .counted) (tabulate-at (λ w. min (length (owned t i w)) 16) 64 v 0 small)
@@ -99,18 +103,20 @@ module _ (t : List ℕ) (i : ℕ) (slots : List (List ℕ)) (used : List ℕ) (s
         }
 
     -- any other takes the next slot
-    pub slots-store : (k : ℕ)
+    pub slots-store : {k : ℕ}
         → k ≡ getD used v 0
         → k < 16
         → Slotted t (i + 1) (set slots v (set (getD slots v []) k i)) (set used v (k + 1))
     unfolding slotsOf usedOf
-    slots-store k e h =
+    slots-store {k} e h =
         let here : k ≡ length (owned t i v) = omega (arith, used-at) in
         let slotsAt : ℕ → ℕ → List ℕ = λ n w. padded 16 65535 (owned t n w) in
         let usedBy : ℕ → ℕ → ℕ = λ n w. min (length (owned t n w)) 16 in
         let row : getD slots v [] ≡ padded 16 65535 (owned t i v) = rw (s .filled) (tabulate-at (slotsAt i) 64 v [] small) in
         record {
-          filled = rw (row, s .filled) (tabulate-set (slotsAt i) (slotsAt (i + 1)) 64 v (set (padded 16 65535 (owned t i v)) k i)
+          filled =
+              rw (row, s .filled) (tabulate-set (slotsAt i) (slotsAt (i + 1)) 64 v
+              (set (padded 16 65535 (owned t i v)) k i)
               (λ l. ap (padded 16 65535) mine-more ∙ sym (padded-more 65535 16 (owned t i v) i k here))
               (λ w l f. ap (padded 16 65535) (sym (others w f))));
           counted = rw (s .counted) (tabulate-set (usedBy i) (usedBy (i + 1)) 64 v (k + 1)
@@ -140,13 +146,15 @@ module _ (t : List ℕ) (i : ℕ) (counts : List ℕ) (come : counts ≡ ownedCo
     -- a vertex has no more records than were seen
     pub counts-small : getD counts v 0 ≤ i
     unfolding owned
-    counts-small = omega (arith, counts-at, those-count (λ j. eqb (ownerAt t j) v) i, count-most (λ j. eqb (ownerAt t j) v) i)
+    counts-small =
+        omega (arith, counts-at, those-count (λ j. eqb (ownerAt t j) v) i, count-most (λ j. eqb (ownerAt t j) v) i)
 
     -- any other record is one more of its owner
     pub counts-more : set counts v (getD counts v 0 + 1) ≡ ownedCounts t (i + 1)
     unfolding ownedCounts
     counts-more =
-        rw (counts-at, come) (tabulate-set (λ w. length (owned t i w)) (λ w. length (owned t (i + 1) w)) 64 v (length (owned t i v) + 1)
+        rw (counts-at, come) (tabulate-set (λ w. length (owned t i w)) (λ w. length (owned t (i + 1) w)) 64 v
+        (length (owned t i v) + 1)
         (λ l. ap length (owned-in t i v (sym mine)) ∙ length-append (owned t i v) (i ∷ []))
         (λ w l f. ap length (sym (owned-out t i w (λ e. f (sym e ∙ sym mine))))))
 
@@ -215,13 +223,13 @@ module _ (t : List ℕ) (i : ℕ) where
       ∙ rw (ne-eqb (nextHop (pathAt t i)) (k % 64) (omega arith)) (or-false (listensAt (pathsBelow t i) k)))
       (λ e. hears-same (k / 64) (k % 64) e)
 
-  pub pairs-more : (marks : List Bool) (v u : ℕ)
+  pub pairs-more : {marks : List Bool} {v u : ℕ}
       → marks ≡ tabulate (listensAt (pathsBelow t i)) 4096
       → v ≡ ownerAt t i
       → u ≡ nextHop (pathAt t i)
       → pairMarked marks v u ≡ tabulate (listensAt (pathsBelow t (i + 1))) 4096
   unfolding pairMarked
-  pairs-more marks v u e f g =
+  pairs-more {marks} {v} {u} e f g =
       let heard = listensAt (pathsBelow t i) in
       let hears = listensAt (pathsBelow t (i + 1)) in
       by-less u 64
@@ -257,6 +265,9 @@ pub pair-skip : (marks : List Bool) (v u : ℕ) → 64 ≤ u → marks ≡ pairM
 unfolding pairMarked
 pair-skip marks v u h = rw (le-ltb u 64 h, pairMarked)
 
-pub pair-store : (marks next : List Bool) (v u : ℕ) → u < 64 → next ≡ set marks (v * 64 + u) true → next ≡ pairMarked marks v u
+pub pair-store : (marks next : List Bool) (v u : ℕ)
+    → u < 64
+    → next ≡ set marks (v * 64 + u) true
+    → next ≡ pairMarked marks v u
 unfolding pairMarked
 pair-store marks next v u h e = let k : v * 64 + u ≡ 64 * v + u = omega arith in e ∙ rw (lt-ltb u 64 h, pairMarked) (rw k)

@@ -8,7 +8,7 @@ use native.Mathlib.Omega.{arith}
 use native.Mathlib.Nat.{not-suc-le-zero}
 use lib.ListN.{length, getD}
 use Rattle.lists.specs.Search.{same}
-use Rattle.lists.specs.Tests.{true≢, by-test}
+use Rattle.lists.specs.Tests.{by-test}
 use Rattle.lists.specs.NumberLaws.{by-number}
 use Rattle.lists.specs.ListLaws.{same-refl, same-eq, differ, differs}
 use Rattle.rules.specs.Table.{Path, first}
@@ -109,14 +109,6 @@ module _ (test : Path → Bool) where
       go (missing e f) = inl e
       go (found r) = inr (r .stands)
 
-  -- where one of the paths passes, the first is picked
-  pub first-passing : (ps : List Path) (k : ℕ) → k < length ps → test (getD ps k []) ≡ true → Picked test ps (first test ps)
-  first-passing ps k h e = go (first-cases ps)
-    where
-      go : First test ps → Picked test ps (first test ps)
-      go (missing q f) = absurd (true≢ e (f k h))
-      go (found r) = r
-
   -- a first other than none is one of the paths and passes
   pub first-taken : (ps : List Path) (p : Path) → p ≢ [] → first test ps ≡ p → Stands ps p × (test p ≡ true)
   first-taken ps p f e = go (first-cases ps)
@@ -169,7 +161,10 @@ module _ (p : Path) where
   place-miss q qs f e = rw (placeIn, differ p q f, e)
 
   -- past the head its place is one more
-  pub place-tail : (q : Path) (qs : List Path) (k : ℕ) → (p ≡ q → ⊥) → placeIn p qs ≡ suc k → placeIn p (q ∷ qs) ≡ suc (suc k)
+  pub place-tail : (q : Path) (qs : List Path) (k : ℕ)
+      → (p ≡ q → ⊥)
+      → placeIn p qs ≡ suc k
+      → placeIn p (q ∷ qs) ≡ suc (suc k)
   unfolding placeIn
   place-tail q qs k f e = rw (placeIn, differ p q f, e)
 

@@ -1,5 +1,5 @@
--- The rules page in plain words: what a table has to keep, which refusal it gets, and what a bad byte and a bad pair are. Nothing of
--- `rules` is in here.
+-- The rules page in plain words: what a table has to keep, which refusal it gets, and what a bad byte and a bad pair
+-- are. Nothing of `rules` is in here.
 use mathlib.Core.Path.{_≡_}
 use mathlib.Core.Logic.{_≢_, _⊎_}
 use mathlib.Core.Bool.{Bool, true}
@@ -92,8 +92,8 @@ pub record RaggedTable (t : List ℕ) : Type 0 where
   pub short : length t ≤ 16128
   pub ragged : length t % 16 ≢ 0
 
--- 4 to 11: "The first bad record decides; within it, 4 to 11 in that order." Rule n is the first that record i breaks, and every earlier
--- record keeps all of them.
+-- 4 to 11: "The first bad record decides; within it, 4 to 11 in that order." Rule n is the first that record i breaks,
+-- and every earlier record keeps all of them.
 pub record FirstFault (t : List ℕ) (n i : ℕ) : Type 0 where
   pub short : length t ≤ 16128
   pub whole : length t % 16 ≡ 0
@@ -160,8 +160,8 @@ unfoldable pub after : (ℕ → ℕ) → ℕ → ℕ → ℕ
 after next zero v = v
 after next (suc n) v = next (after next n v)
 
--- "Start at the lowest stuck vertex and follow until a vertex repeats. The closed part, beginning at its lowest vertex and in following
--- order, is the ring (2 vertices or more)."
+-- "Start at the lowest stuck vertex and follow until a vertex repeats. The closed part, beginning at its lowest vertex
+-- and in following order, is the ring (2 vertices or more)."
 pub record RingMet (stuck : ℕ → Bool) (next : ℕ → ℕ) (ring : List ℕ) : Type 0 where
   -- the walk starts at the lowest stuck vertex
   pub start : ℕ

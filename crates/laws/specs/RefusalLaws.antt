@@ -23,7 +23,8 @@ use Rattle.laws.specs.ScheduleLaws.{pairs-length}
 use Rattle.laws.specs.RunLaws.{run-counts, run-steps}
 use Rattle.laws.specs.AnswerLaws.{run-whole, refused-rows, refused-ring, lent-right, step-refused-length, step-refused-table, step-refused-heard, step-refused-pair, step-accepted, run-refused-length, run-refused-sums, run-refused-table, run-refused-heard, run-refused-schedule, run-refused-pair, run-accepted}
 
--- What a refusal of the check, the step or the run tells: a number of the page, and a place that is a record, an offset or a pair.
+-- What a refusal of the check, the step or the run tells: a number of the page, and a place that is a record, an offset
+-- or a pair.
 pub record Numbered (r : Refusal) : Type 0 where
   pub least : 1 ≤ r .number
   pub most : r .number ≤ 14
@@ -41,7 +42,8 @@ module _ (o : Option Refusal) (r : Refusal) (e : o ≡ some r) where
   -- the table's refusal
   numbered-table : (t : List ℕ) (q : Refusal) → o ≡ some q → refusal t ≡ some q → Numbered r
   numbered-table t q f g =
-      let n = told t q g in numbered-at (q .number) (q .place) f (omega (arith, n .least)) (omega (arith, n .most)) (omega (arith, n .place))
+      let n = told t q g in numbered-at (q .number) (q .place) f (omega (arith, n .least)) (omega (arith, n .most))
+      (omega (arith, n .place))
 
 -- an offset is below the state's length
 offset-under : (t heard : List ℕ) (k : ℕ) → heardFault (pathsOf t) heard ≡ some k → k < length heard
@@ -77,7 +79,8 @@ module _ (t heard : List ℕ) (p : Pair) (r : Refusal) (e : stepRefusal t heard 
       (λ v. by-test (listens (pathsOf t) (p .listener) (p .speaker))
       (λ l. absurd (none≢some (step-accepted t heard p n a v l) e))
       (λ l. step-at 14 0 (step-refused-pair t heard p n a v l) (omega arith) (omega arith) (omega arith)))
-      (λ k v. step-at 12 k (step-refused-heard t heard p n a k v) (omega arith) (omega arith) (omega (arith, offset-under t heard k v))))
+      (λ k v. step-at 12 k (step-refused-heard t heard p n a k v) (omega arith) (omega arith)
+      (omega (arith, offset-under t heard k v))))
       (λ q a. numbered-table _ r e t q (step-refused-table t heard p n q a) a))
       (λ n. step-at 1 0 (step-refused-length t heard p n) (omega arith) (omega arith) (omega arith))
 
@@ -91,7 +94,8 @@ module _ (t heard s : List ℕ) (sums : List ℤ) (r : Refusal) (e : runRefusal 
       (λ b. run-at 13 0 (run-refused-schedule t heard s sums n m a v b) (omega arith) (omega arith) (omega arith))
       (λ b. by-option (firstBadPair (pathsOf t) (pairsIn s))
       (λ l. absurd (none≢some (run-accepted t heard s sums n m a v b l) e))
-      (λ k l. run-at 14 k (run-refused-pair t heard s sums n m a v b k l) (omega arith) (omega arith) (omega (arith, pair-under t s k l, short-schedule s b))))
+      (λ k l. run-at 14 k (run-refused-pair t heard s sums n m a v b k l) (omega arith) (omega arith)
+      (omega (arith, pair-under t s k l, short-schedule s b))))
 
   pub run-numbered : Numbered r
   run-numbered =
@@ -100,16 +104,27 @@ module _ (t heard s : List ℕ) (sums : List ℤ) (r : Refusal) (e : runRefusal 
       (λ m. by-option (refusal t)
       (λ a. by-option (heardFault (pathsOf t) heard)
       (judged n m a)
-      (λ k v. run-at 12 k (run-refused-heard t heard s sums n m a k v) (omega arith) (omega arith) (omega (arith, offset-under t heard k v))))
+      (λ k v. run-at 12 k (run-refused-heard t heard s sums n m a k v) (omega arith) (omega arith)
+      (omega (arith, offset-under t heard k v))))
       (λ q a. numbered-table _ r e t q (run-refused-table t heard s sums n m q a) a))
       (λ m. run-at 1 0 (run-refused-sums t heard s sums m) (omega arith) (omega arith) (omega arith)))
       (λ n. run-at 1 0 (run-refused-length t heard s sums n) (omega arith) (omega arith) (omega arith))
 
 -- an accepted run answers no more rounds than a schedule has pairs
-pub rounds-few : (t heard s : List ℕ) (sums : List ℤ) → runRefusal t heard s sums ≡ none → getD (runNumbers t heard s sums) 4 0 ≤ 16384
+pub rounds-few : (t heard s : List ℕ) (sums : List ℤ)
+    → runRefusal t heard s sums ≡ none
+    → getD (runNumbers t heard s sums) 4 0 ≤ 16384
 unfolding runNumbers unless
 rounds-few t heard s sums e =
     let paths = pathsOf t in
     let most : run paths heard (pairsIn s) .rounds ≤ 16384
-    = omega (arith, run-counts paths heard (pairsIn s) .closings, run-steps paths heard (pairsIn s), pairs-length s, short-schedule s (run-whole t heard s sums e)) in
+    =
+    omega (
+      arith,
+      run-counts paths heard (pairsIn s) .closings,
+      run-steps paths heard
+          (pairsIn s),
+      pairs-length s,
+      short-schedule s (run-whole t heard s sums e),
+    ) in
     rw e most

@@ -26,7 +26,8 @@ unfolding rowBytes
 row-bytes-length mark rank p = omega (arith, padded-length 255 13 p)
 
 -- each row has 16 bytes
-pub row-length : (paths : ℕ → List Path) (isPresent : ℕ → Bool) (S : Settled) (v : ℕ) → length (row paths isPresent S v) ≡ 16
+pub row-length : (paths : ℕ → List Path) (isPresent : ℕ → Bool) (S : Settled) (v : ℕ)
+    → length (row paths isPresent S v) ≡ 16
 unfolding row
 row-length paths isPresent S v =
     by-test (isPresent v)
@@ -46,14 +47,19 @@ unfolding report
 ring-length t = padded-length 255 64 _
 
 -- a vertex's own part of the rows is its row
-pub row-part : (t : List ℕ) (v : ℕ) → v < 64 → rowAt (report t .rows) v ≡ row (pathsOf t) (present t) (final (pathsOf t) (present t)) v
+pub row-part : (t : List ℕ) (v : ℕ)
+    → v < 64
+    → rowAt (report t .rows) v ≡ row (pathsOf t) (present t) (final (pathsOf t) (present t)) v
 unfolding report rowAt
 row-part t v h =
     let S : Settled = final (pathsOf t) (present t) in
     blocks-at (row (pathsOf t) (present t) S) 16 (row-length (pathsOf t) (present t) S) 64 v h
 
 -- the vertices of a path are those before the first 255, where they are below 64
-pub vertices-padded : (p : Path) → length p ≤ 13 → ((k : ℕ) → k < length p → getD p k 0 < 64) → vertices (padded 13 255 p) ≡ p
+pub vertices-padded : (p : Path)
+    → length p ≤ 13
+    → ((k : ℕ) → k < length p → getD p k 0 < 64)
+    → vertices (padded 13 255 p) ≡ p
 unfolding vertices
 vertices-padded p h small = ap vertices (padded-whole 255 13 p h) ∙ before p (13 - length p) small
   where
@@ -72,8 +78,10 @@ module _ (paths : ℕ → List Path) (isPresent : ℕ → Bool) (shaped : Shaped
   counts =
       let done : ℕ → Bool = λ v. isSettled (final paths isPresent v) in
       let all : ℕ → Bool = λ v. not (eqb v 0) && isPresent v in
-      rw (count-ext (λ v. not (eqb v 0) && done v) (λ v. all v && done v) 64 (λ v h. and-second (not (eqb v 0)) (isPresent v) _ (here v)))
-      (rw (count-ext (isStuck paths isPresent) (λ v. all v && not (done v)) 64 (λ v h. and-first (not (eqb v 0)) (isPresent v) _ (other v)))
+      rw (count-ext (λ v. not (eqb v 0) && done v) (λ v. all v && done v) 64
+      (λ v h. and-second (not (eqb v 0)) (isPresent v) _ (here v)))
+      (rw (count-ext (isStuck paths isPresent) (λ v. all v && not (done v)) 64
+      (λ v h. and-first (not (eqb v 0)) (isPresent v) _ (other v)))
       (count-parts all done 64))
     where
       here : (v : ℕ) → isSettled (final paths isPresent v) ≡ true → isPresent v ≡ true
@@ -95,7 +103,8 @@ pub report-counts : (t : List ℕ)
 unfolding report
 report-counts t shaped = counts (pathsOf t) (present t) shaped
 
--- where some vertex is stuck the report has a ring, and where none is it has none: the verdict tells the two apart by the ring's length
+-- where some vertex is stuck the report has a ring, and where none is it has none: the verdict tells the two apart by
+-- the ring's length
 pub report-ring : (t : List ℕ)
     → Shaped (pathsOf t) (present t)
     → (v : ℕ)
@@ -104,6 +113,8 @@ pub report-ring : (t : List ℕ)
 unfolding report
 report-ring t shaped v s = ring-holds (pathsOf t) (present t) shaped v s .two
 
-pub report-complete : (t : List ℕ) → ((v : ℕ) → v < 64 → isStuck (pathsOf t) (present t) v ≡ false) → report t .ringLength ≡ 0
+pub report-complete : (t : List ℕ)
+    → ((v : ℕ) → v < 64 → isStuck (pathsOf t) (present t) v ≡ false)
+    → report t .ringLength ≡ 0
 unfolding report
 report-complete t h = ap length (ring-none (isStuck (pathsOf t) (present t)) (onward (pathsOf t) (present t)) h)

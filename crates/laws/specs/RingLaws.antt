@@ -12,7 +12,7 @@ use borrow.Author.Tests.{eq-eqb, ne-eqb, not-true}
 use Rattle.lists.specs.Search.{elem, firstFrom, twice}
 use Rattle.lists.specs.SearchLaws.{Found, first-found, first-none, finds-passing, pigeonhole}
 use Rattle.lists.specs.ListLaws.{twice-apart, apart-twice}
-use Rattle.lists.specs.Tests.{by-test, by-equal, by-less, by-option, true≢, none≢some, and-parts, both}
+use Rattle.lists.specs.Tests.{by-test, by-equal, by-less, by-option, true≢, none≢some, and-parts, both, impossible}
 use Rattle.lists.specs.Fill.{tabulate}
 use Rattle.lists.specs.FillLaws.{tabulate-length, tabulate-at, tabulate-ext, tabulate-add, tabulate-take, tabulate-drop, tabulate-elem, tabulate-place}
 use Rattle.rules.specs.Table.{Path, nextHop}
@@ -40,7 +40,7 @@ pub judged-waits : (paths : ℕ → List Path) (S : Settled) (p : Path)
 unfolding judged
 judged-waits paths S [] e = absurd (none≢some e refl)
 judged-waits paths S (v ∷ p) e = (
-  λ q. let z : _≡_ {A = ℕ} 0 1 = cc in omega arith,
+  λ q. impossible cc,
   by-test (isSettled (S (nextHop (v ∷ p))))
       (λ q. absurd (none≢some {a = v ∷ p} e (rw (q, judged)))) (λ q. q),
 )
@@ -82,17 +82,20 @@ module _ (paths : ℕ → List Path) (present : ℕ → Bool) where
           go : First (compatible final) (paths v)
               → Permitted present v (best paths final v) × (compatible final (best paths final v) ≡ true)
           go (missing e f) = absurd (judged-waits paths final _ stuck-judged .0 e)
-          go (found r) = (rw (← r .stands .there) (shaped .permitted v (r .stands .place) (r .stands .under)), r .passes)
+          go (found r) =
+              (rw (← r .stands .there) (shaped .permitted v (r .stands .place) (r .stands .under)), r .passes)
 
       -- its next hop is stuck too
       pub stuck-next : isStuck (onward v) ≡ true
       unfolding stuckIn follows nextHop
-      stuck-next = both _ _ (stuck-best .0 .named 1 (stuck-best .0 .long)) (ap not (judged-waits paths final _ stuck-judged .1))
+      stuck-next =
+          both _ _ (stuck-best .0 .named 1 (stuck-best .0 .long)) (ap not (judged-waits paths final _ stuck-judged .1))
 
       -- and is another vertex
       pub stuck-moves : onward v ≢ v
       unfolding follows nextHop
-      stuck-moves e = twice-apart _ (stuck-best .0 .simple) 0 1 (omega arith) (stuck-best .0 .long) (stuck-best .0 .owner ∙ sym e)
+      stuck-moves e =
+          twice-apart _ (stuck-best .0 .simple) 0 1 (omega arith) (stuck-best .0 .long) (stuck-best .0 .owner ∙ sym e)
 
 -- the place of a vertex parts a list
 pub from-place : (v : ℕ) (l : List ℕ) (k : ℕ)
@@ -160,7 +163,8 @@ module _ (next : ℕ → ℕ) (n j v : ℕ) (h : j < n) (back : after next n v �
   turned-way a =
       let p = parted next n j v h a in
       let z : n - j + j ≡ n = omega arith in
-      let on = tabulate-ext (λ k. after next k v) (λ k. after next (n - j + k) (after next j v)) j (λ k l. sym (round-again k)) in
+      let on = tabulate-ext (λ k. after next k v) (λ k. after next (n - j + k) (after next j v)) j
+      (λ k l. sym (round-again k)) in
       rw (p .0, p .1, on, ← tabulate-add (λ k. after next k (after next j v)) (n - j) j, z)
 
 -- What is followed: from stuck to stuck, to another, and never to 0.
@@ -199,10 +203,14 @@ module _ (stuck : ℕ → Bool) (next : ℕ → ℕ) (w : Following stuck next) 
   stuck-above v s = by-equal v 0 (λ q. absurd (true≢ (rw q at s) (w .origin))) (λ q. omega arith)
 
   -- from a repeated vertex on
-  met-at : (n v : ℕ) → Apart next n v → elem (after next n v) (way next n v) ≡ true → Met next v (fromVertex (after next n v) (way next n v))
+  met-at : (n v : ℕ)
+      → Apart next n v
+      → elem (after next n v) (way next n v) ≡ true
+      → Met next v (fromVertex (after next n v) (way next n v))
   met-at n v a q = go (tabulate-place (λ k. after next k v) n (after next n v) q)
     where
-      go : (k : ℕ) × (k < n) × (after next k v ≡ after next n v) → Met next v (fromVertex (after next n v) (way next n v))
+      go : (k : ℕ) × (k < n) × (after next k v ≡ after next n v)
+          → Met next v (fromVertex (after next n v) (way next n v))
       go (k, h, e) =
           let z : k + (n - k) ≡ n = omega arith in
           record {
@@ -215,7 +223,11 @@ module _ (stuck : ℕ → Bool) (next : ℕ → ℕ) (w : Following stuck next) 
           }
 
   -- following long enough closes
-  closed : (f n v : ℕ) → stuck v ≡ true → n + f ≡ 65 → Apart next n v → Met next v (closedPart next f (way next n v) (after next n v))
+  closed : (f n v : ℕ)
+      → stuck v ≡ true
+      → n + f ≡ 65
+      → Apart next n v
+      → Met next v (closedPart next f (way next n v) (after next n v))
   unfolding closedPart tabulate after
   closed zero n v s e a =
       absurd (omega (arith, pigeonhole (λ k. after next k v) 64 n (λ i h. w .range _ (after-stuck i v s)) a))
@@ -334,11 +346,13 @@ module _ (stuck : ℕ → Bool) (next : ℕ → ℕ) (w : Following stuck next) 
 
       turned-at : (k : ℕ) → k < c .size → getD (turned r) k 0 ≡ after next (j + k) (c .start)
       unfolding turned-cycle
-      turned-at k l = cycle-at turned-cycle k (omega (arith, cycle-length turned-cycle)) ∙ sym (after-add next j k (c .start))
+      turned-at k l =
+          cycle-at turned-cycle k (omega (arith, cycle-length turned-cycle)) ∙ sym (after-add next j k (c .start))
 
     low-place : (j : ℕ) × (j < c .size) × (after next j (c .start) ≡ lowestOf r)
     low-place =
-        tabulate-place (λ k. after next k (c .start)) (c .size) (lowestOf r) (ap (elem (lowestOf r)) (sym (c .is)) ∙ low-found .passes)
+        tabulate-place (λ k. after next k (c .start)) (c .size) (lowestOf r)
+        (ap (elem (lowestOf r)) (sym (c .is)) ∙ low-found .passes)
 
     turned-ring : Ring stuck next (turned r)
     unfolding turned-cycle

@@ -1,5 +1,5 @@
--- Laws of the rounds: a schedule contains as many as the run counts, and no more where there is a listening pair; and how rounds go with
--- schedules one after the other.
+-- Laws of the rounds: a schedule contains as many as the run counts, and no more where there is a listening pair; and
+-- how rounds go with schedules one after the other.
 use Prim.{tt}
 use Prim.Native.Nat.{ℕ, zero, suc, _+_, _-_, _<_, _≤_}
 use mathlib.Core.Path.{_≡_, refl, sym, ap, _∙_, subst}
@@ -68,7 +68,8 @@ closes-count f n since k h e =
 
 -- one activation more: at the end of the schedule and at the head of what has been activated since
 
-more-behind : (k : ℕ) (s : List Pair) (p : Pair) → elem k (map offsetOf (s ++ p ∷ [])) ≡ elem k (map offsetOf s) || eqb k (offsetOf p)
+more-behind : (k : ℕ) (s : List Pair) (p : Pair)
+    → elem k (map offsetOf (s ++ p ∷ [])) ≡ elem k (map offsetOf s) || eqb k (offsetOf p)
 more-behind k s p = ap (elem k) (map-append offsetOf s (p ∷ [])) ∙ elem-more k (map offsetOf s) (offsetOf p)
 
 all-behind : (since : List ℕ) (s : List Pair) (p : Pair)
@@ -76,7 +77,8 @@ all-behind : (since : List ℕ) (s : List Pair) (p : Pair)
     → AllIn (offsetOf p ∷ since) (map offsetOf (s ++ p ∷ []))
 all-behind since s p f k e =
     more-behind k s p
-    ∙ ⊎-elim (or-right (elem k (map offsetOf s)) (eqb k (offsetOf p))) (λ q. or-left (elem k (map offsetOf s)) (eqb k (offsetOf p)) (f k q))
+    ∙ ⊎-elim (or-right (elem k (map offsetOf s)) (eqb k (offsetOf p)))
+    (λ q. or-left (elem k (map offsetOf s)) (eqb k (offsetOf p)) (f k q))
     (or-cases (eqb k (offsetOf p)) (elem k since) (sym (elem-cons k (offsetOf p) since) ∙ e))
 
 all-before : (since : List ℕ) (s : List Pair) (p : Pair)
@@ -127,7 +129,10 @@ module _ (pairs : List ℕ) where
       }
 
   -- rounds one after the other add
-  pub contains-add : (m n : ℕ) (s t : List Pair) → Contains pairs m s → Contains pairs n t → Contains pairs (m + n) (s ++ t)
+  pub contains-add : (m n : ℕ) (s t : List Pair)
+      → Contains pairs m s
+      → Contains pairs n t
+      → Contains pairs (m + n) (s ++ t)
   unfolding Contains
   contains-add m zero s t c d = let z : m + 0 ≡ m = omega arith in rw z (contains-behind m s t c)
   contains-add m (suc n) s t c d =
@@ -245,7 +250,8 @@ module _ (pairs : List ℕ) where
     tallied y s = foldLeft (activated paths pairs) y s
 
     -- the one holds of the tally from the beginning
-    tally-closed : (heard : List ℕ) (s : List Pair) → Closed s (tallied (begun heard) s .rounds) (tallied (begun heard) s .since)
+    tally-closed : (heard : List ℕ) (s : List Pair)
+        → Closed s (tallied (begun heard) s .rounds) (tallied (begun heard) s .since)
     unfolding activated begun
     tally-closed heard s =
         fold-follows (activated paths pairs) (λ s y. Closed s (y .rounds) (y .since))
@@ -272,10 +278,18 @@ module _ (pairs : List ℕ) where
         → y .rounds < tallied (tallied y stretch) rest .rounds
     tally-closes y stretch rest some f e =
         let w = tally-waiting y stretch e in
-        omega (arith, waiting-closes (y .rounds) stretch _ _ some f w, tally-waiting (tallied y stretch) rest (w .notDue) .least)
+        omega (
+          arith,
+          waiting-closes (y .rounds) stretch _ _ some f w,
+          tally-waiting (tallied y stretch) rest
+              (w .notDue) .least,
+        )
 
     -- all rounds that a schedule contains are counted, where there is a pair
-    contained-counted : pairs ≢ [] → (heard : List ℕ) (n : ℕ) (s : List Pair) → Contains pairs n s → n ≤ tallied (begun heard) s .rounds
+    contained-counted : pairs ≢ []
+        → (heard : List ℕ) (n : ℕ) (s : List Pair)
+        → Contains pairs n s
+        → n ≤ tallied (begun heard) s .rounds
     unfolding begun
     contained-counted some heard zero s c = omega arith
     contained-counted some heard (suc n) s c =
@@ -283,7 +297,8 @@ module _ (pairs : List ℕ) where
         let y = tallied (begun heard) (l .before) in
         let notDue = tally-waiting (begun heard) (l .before) (closes-not-yet pairs) .notDue in
         let parts : tallied (begun heard) s ≡ tallied (tallied y (l .stretch)) (l .after) =
-        ap (tallied (begun heard)) (l .parts) ∙ fold-append (activated paths pairs) (begun heard) (l .before ++ l .stretch) (l .after)
+        ap (tallied (begun heard)) (l .parts) ∙ fold-append (activated paths pairs) (begun heard)
+        (l .before ++ l .stretch) (l .after)
         ∙ ap (λ y. tallied y (l .after)) (fold-append (activated paths pairs) (begun heard) (l .before) (l .stretch)) in
         rw parts (omega (
           arith,
@@ -295,10 +310,14 @@ module _ (paths : ℕ → List Path) (heard : List ℕ) (s : List Pair) where
   -- the counted rounds are rounds
   pub rounds-contained : Contains (listeningOffsets paths) (run paths heard s .rounds) s
   unfolding run
-  rounds-contained = closed-contains (listeningOffsets paths) s _ _ (tally-closed (listeningOffsets paths) paths heard s)
+  rounds-contained =
+      closed-contains (listeningOffsets paths) s _ _ (tally-closed (listeningOffsets paths) paths heard s)
 
   -- and no schedule with a listening pair contains more
-  pub rounds-greatest : listeningOffsets paths ≢ [] → (n : ℕ) → Contains (listeningOffsets paths) n s → n ≤ run paths heard s .rounds
+  pub rounds-greatest : listeningOffsets paths ≢ []
+      → (n : ℕ)
+      → Contains (listeningOffsets paths) n s
+      → n ≤ run paths heard s .rounds
   unfolding run
   rounds-greatest some n c = contained-counted (listeningOffsets paths) paths some heard n s c
 
@@ -307,8 +326,8 @@ module _ (paths : ℕ → List Path) (heard : List ℕ) (s : List Pair) where
   unfolding run begun activated closes more
   rounds-none e = rw e (fold-keeps (activated paths []) (λ y. y .rounds ≡ 0) (λ y p h. h) (begun heard) s refl)
 
--- Two runs one after the other, each counting from its own start, count no more rounds than one run over the whole: a round that begins
--- in the first and ends in the second is counted by the whole alone.
+-- Two runs one after the other, each counting from its own start, count no more rounds than one run over the whole: a
+-- round that begins in the first and ends in the second is counted by the whole alone.
 pub rounds-add : (paths : ℕ → List Path) (heard later : List ℕ) (s t : List Pair)
     → run paths heard s .rounds + run paths later t .rounds ≤ run paths heard (s ++ t) .rounds
 rounds-add paths heard later s t = go (listeningOffsets paths) refl
@@ -318,8 +337,10 @@ rounds-add paths heard later s t = go (listeningOffsets paths) refl
         → run paths heard s .rounds + run paths later t .rounds ≤ run paths heard (s ++ t) .rounds
     go [] e = omega (arith, rounds-none paths heard s e, rounds-none paths later t e)
     go (k ∷ ks) e =
-        rounds-greatest paths heard (s ++ t) (λ z. omega (arith, ap length (sym e ∙ z))) (run paths heard s .rounds + run paths later t .rounds)
-        (contains-add (listeningOffsets paths) (run paths heard s .rounds) (run paths later t .rounds) s t (rounds-contained paths heard s)
+        rounds-greatest paths heard (s ++ t) (λ z. omega (arith, ap length (sym e ∙ z)))
+        (run paths heard s .rounds + run paths later t .rounds)
+        (contains-add (listeningOffsets paths) (run paths heard s .rounds) (run paths later t .rounds) s t
+        (rounds-contained paths heard s)
         (rounds-contained paths later t))
 
 -- A schedule with n rounds, cut in two, has at least n - 1 in its parts: the cut breaks one round at most.
@@ -342,7 +363,8 @@ contains-cut pairs (suc n) s t c =
     record {
       early = n;
       late = 0;
-      front = subst (Contains pairs n) (sym (f .0)) (contains-behind pairs n (l .before) (drop (length (l .before)) s) (l .earlier));
+      front = subst (Contains pairs n) (sym (f .0))
+          (contains-behind pairs n (l .before) (drop (length (l .before)) s) (l .earlier));
       back = contains-none pairs t;
       enough = omega arith;
     })
@@ -370,7 +392,8 @@ rounds-lost paths heard later s t = go (listeningOffsets paths) refl
     go [] e = omega (arith, rounds-none paths heard (s ++ t) e)
     go (k ∷ ks) e =
         let nonempty : listeningOffsets paths ≢ [] = λ z. omega (arith, ap length (sym e ∙ z)) in
-        let c = contains-cut (listeningOffsets paths) (run paths heard (s ++ t) .rounds) s t (rounds-contained paths heard (s ++ t)) in
+        let c = contains-cut (listeningOffsets paths) (run paths heard (s ++ t) .rounds) s t
+        (rounds-contained paths heard (s ++ t)) in
         omega (
           arith,
           c .enough,

@@ -67,7 +67,10 @@ latest kept old now = elim kept [ true ↦ old | false ↦ now ]
 -- one step more, counted on from so many steps
 
 module _ (steps x y z : ℕ) where
-  unchanged-on : (kept : Bool) (n : ℕ) → (z ≡ 0 → y ≡ x) → latest kept z (suc n) ≡ 0 → latest kept y (suc (steps + n)) ≡ x
+  unchanged-on : (kept : Bool) (n : ℕ)
+      → (z ≡ 0 → y ≡ x)
+      → latest kept z (suc n) ≡ 0
+      → latest kept y (suc (steps + n)) ≡ x
   unchanged-on true n f e = f e
   unchanged-on false n f e = absurd (omega arith)
 
@@ -93,7 +96,8 @@ sums-on a b c i m n e v =
     (λ q. rw q (getD-set-same b i new (pos 0) h ∙ ap (λ x. x +ℤ m) (e i) ∙ +ℤ-assoc (getD a i (pos 0)) (getD c i (pos 0)) m
     ∙ sym (ap (λ x. getD a i (pos 0) +ℤ x) (getD-set-same c i late (pos 0) (omega arith)))))
     (λ q. getD-set-other b i v new (pos 0) q ∙ e v ∙ sym (ap over (getD-set-other c i v late (pos 0) q))))
-    (λ h. ap (λ l. getD l v (pos 0)) (set-out b i new h) ∙ e v ∙ sym (ap (λ l. over (getD l v (pos 0))) (set-out c i late (omega arith))))
+    (λ h. ap (λ l. getD l v (pos 0)) (set-out b i new h) ∙ e v ∙ sym
+    (ap (λ l. over (getD l v (pos 0))) (set-out c i late (omega arith))))
 
 -- The tally y is x, and z counted on from there.
 pub record Joined (x z y : Tally) : Type 0 where
@@ -115,12 +119,15 @@ module _ (paths : ℕ → List Path) where
   tally-heard pairs y s = fold-part (activated paths pairs) (λ y. y .heard) (step paths) (λ y p. refl) y s
 
   -- from any tally, the steps grow by the pairs
-  pub tally-steps : (pairs : List ℕ) (y : Tally) (s : List Pair) → foldLeft (activated paths pairs) y s .steps ≡ y .steps + length s
+  pub tally-steps : (pairs : List ℕ) (y : Tally) (s : List Pair)
+      → foldLeft (activated paths pairs) y s .steps ≡ y .steps + length s
   unfolding activated
   tally-steps pairs y s = fold-grows (activated paths pairs) (λ y. y .steps) (λ y p. refl) y s
 
   -- from any tally, the counts stay within the steps
-  pub tally-counts : (pairs : List ℕ) (y : Tally) (s : List Pair) → Counted y → Counted (foldLeft (activated paths pairs) y s)
+  pub tally-counts : (pairs : List ℕ) (y : Tally) (s : List Pair)
+      → Counted y
+      → Counted (foldLeft (activated paths pairs) y s)
   unfolding activated
   tally-counts pairs y s c = fold-keeps (activated paths pairs) Counted keep y s c
     where
@@ -128,7 +135,9 @@ module _ (paths : ℕ → List Path) where
       keep y p c =
           record {
             moves = omega (arith, more-both (movement paths (y .heard) p) (y .ups) (y .downs), c .moves);
-            change = by-test (same (choice paths (y .heard) (p .listener)) (choice paths (step paths (y .heard) p) (p .listener)))
+            change =
+                by-test
+                (same (choice paths (y .heard) (p .listener)) (choice paths (step paths (y .heard) p) (p .listener)))
                 (λ q. rw (q, activated) (omega (arith, c .change)))
                 (λ q. rw (q, activated) (omega arith));
             closings = omega (arith, more-most (closes pairs (offsetOf p ∷ y .since)) (y .rounds), c .closings);
@@ -147,7 +156,9 @@ module _ (paths : ℕ → List Path) where
   -- the run's ups and downs are at most its steps, and so are the last change and the rounds
   pub run-counts : (heard : List ℕ) (s : List Pair) → Counted (run paths heard s)
   unfolding run begun
-  run-counts heard s = tally-counts (listeningOffsets paths) (begun heard) s (record { moves = omega arith; change = omega arith; closings = omega arith })
+  run-counts heard s =
+      tally-counts (listeningOffsets paths) (begun heard) s
+      (record { moves = omega arith; change = omega arith; closings = omega arith })
 
   -- a run keeps the length of the heard state
   pub run-length : (heard : List ℕ) (s : List Pair) → length (run paths heard s .heard) ≡ length heard
@@ -164,7 +175,9 @@ module _ (paths : ℕ → List Path) where
       (begun heard) s (length-replicate 64 (pos 0))
 
   -- one activation more keeps what is joined
-  joined-on : (pairs : List ℕ) (x y z : Tally) (p : Pair) → Joined x z y → Joined x (activated paths pairs z p) (activated paths pairs y p)
+  joined-on : (pairs : List ℕ) (x y z : Tally) (p : Pair)
+      → Joined x z y
+      → Joined x (activated paths pairs z p) (activated paths pairs y p)
   unfolding activated
   joined-on pairs x y z p j =
       let i = p .listener in

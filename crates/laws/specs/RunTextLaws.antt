@@ -46,10 +46,13 @@ module _ (isPresent : ℕ → Bool) (line : ℕ → List ℕ) where
       let here : lineAt v ≡ line (v + 1) = rw (h, lineAt) in
       ap (λ (k : List ℕ). vertexLines isPresent line v ++ k) (e ∙ sym here) ∙ vertices-more v
 
-  pub vertices-absent : (v : ℕ) → isPresent (v + 1) ≡ false → vertexLines isPresent line v ≡ vertexLines isPresent line (v + 1)
+  pub vertices-absent : (v : ℕ)
+      → isPresent (v + 1) ≡ false
+      → vertexLines isPresent line v ≡ vertexLines isPresent line (v + 1)
   vertices-absent v h =
       let here : lineAt v ≡ [] = rw (h, lineAt) in
-      sym (append-nil (vertexLines isPresent line v)) ∙ ap (λ (k : List ℕ). vertexLines isPresent line v ++ k) (sym here) ∙ vertices-more v
+      sym (append-nil (vertexLines isPresent line v)) ∙ ap (λ (k : List ℕ). vertexLines isPresent line v ++ k)
+      (sym here) ∙ vertices-more v
 
 -- lines that agree
 pub vertices-ext : (isPresent : ℕ → Bool) (f g : ℕ → List ℕ) (n : ℕ)
@@ -69,11 +72,23 @@ signed-most (negsuc n) = omega (arith, decimal-most (suc n))
 run-line-most : (ns : List ℕ) → length (runLine ns) ≤ 87
 unfolding runLine labelled codes
 run-line-most ns =
-    simp length-append (omega (arith, decimal-most (getD ns 0 0), decimal-most (getD ns 1 0), decimal-most (getD ns 2 0), decimal-most (getD ns 3 0), decimal-most (getD ns 4 0)))
+    simp length-append (omega (
+      arith,
+      decimal-most (getD ns 0 0),
+      decimal-most (getD ns 1 0),
+      decimal-most
+          (getD ns 2 0),
+      decimal-most (getD ns 3 0),
+      decimal-most (getD ns 4 0),
+    ))
 
-vertex-most : (v : ℕ) (sum : ℤ) (rank : ℕ) (path : Path) → v < 64 → length (spaced path) ≤ 39 → length (vertexLine v sum rank path) ≤ 79
+vertex-most : (v : ℕ) (sum : ℤ) (rank : ℕ) (path : Path)
+    → v < 64
+    → length (spaced path) ≤ 39
+    → length (vertexLine v sum rank path) ≤ 79
 unfolding vertexLine codes
-vertex-most v sum rank path h l = simp length-append (omega (arith, decimal-few v (omega arith), signed-most sum, route-most rank 39 path l))
+vertex-most v sum rank path h l =
+    simp length-append (omega (arith, decimal-few v (omega arith), signed-most sum, route-most rank 39 path l))
 
 -- a run that is accepted has an accepted table
 pub accepted-table : (t heard s : List ℕ) (sums : List ℤ)
@@ -87,7 +102,8 @@ accepted-table t heard s sums h l e =
 module _ (t : List ℕ) (e : refusal t ≡ none) where
   -- a choice has at most 13 vertices, all below 64
   choice-short : (heard : List ℕ) (v : ℕ) → v ≢ 0 → length (spaced (choice (pathsOf t) heard v)) ≤ 39
-  choice-short heard v f = go (choice (pathsOf t) heard v) (rw (speaks-other (pathsOf t) v f) at (choice-spoken (pathsOf t) heard v))
+  choice-short heard v f =
+      go (choice (pathsOf t) heard v) (rw (speaks-other (pathsOf t) v f) at (choice-spoken (pathsOf t) heard v))
     where
       go : (p : Path) → (p ≡ []) ⊎ Stands (pathsOf t v) p → length (spaced p) ≤ 39
       go p (inl q) = omega (arith, spaced-few p (λ k l. absurd (let z = ap length q in omega arith)), ap length q)
@@ -101,21 +117,28 @@ module _ (t : List ℕ) (e : refusal t ≡ none) where
       blocks-most (lineAt (present t) (ranLine t y)) 79 63
       (λ k. by-test (present t (k + 1))
       (λ q. rw (q, lineAt)
-      (vertex-most (k + 1) _ _ (choice (pathsOf t) (y .heard) (k + 1)) (shaped t e .range (k + 1) q) (choice-short (y .heard) (k + 1) (λ z. omega arith))))
+      (vertex-most (k + 1) _ _ (choice (pathsOf t) (y .heard) (k + 1)) (shaped t e .range (k + 1) q)
+      (choice-short (y .heard) (k + 1) (λ z. omega arith))))
       (λ q. rw (q, lineAt) (omega arith)))
 
 -- the text fits 8,192 bytes
 
-answer-fits : (o : Option Refusal) (numbers lines : List ℕ) → (o ≡ none → length lines ≤ 4977) → length (runTextOf o numbers lines) ≤ 8192
+answer-fits : (o : Option Refusal) (numbers lines : List ℕ)
+    → (o ≡ none → length lines ≤ 4977)
+    → length (runTextOf o numbers lines) ≤ 8192
 unfolding runTextOf
 answer-fits none numbers lines h = omega (arith, length-append (runLine numbers) lines, run-line-most numbers, h refl)
 answer-fits (some r) numbers lines h = omega (arith, refused-most (r .number) (r .place))
 
-pub run-text-fits : (t heard s : List ℕ) (sums : List ℤ) → length heard ≡ 4096 → length sums ≡ 64 → length (runText t heard s sums) ≤ 8192
+pub run-text-fits : (t heard s : List ℕ) (sums : List ℤ)
+    → length heard ≡ 4096
+    → length sums ≡ 64
+    → length (runText t heard s sums) ≤ 8192
 unfolding runText
 run-text-fits t heard s sums h l = answer-fits _ _ _ (λ e. lines-most t (accepted-table t heard s sums h l e) _)
 
 pub ran-text-fits : (t s : List ℕ) → length (ranText t s) ≤ 8192
 unfolding ranText
 ran-text-fits t s =
-    run-text-fits t (replicate 4096 0) s (replicate 64 (pos 0)) (length-replicate {A = ℕ} 4096 0) (length-replicate {A = ℤ} 64 (pos 0))
+    run-text-fits t (replicate 4096 0) s (replicate 64 (pos 0)) (length-replicate {A =
+    ℕ} 4096 0) (length-replicate {A = ℤ} 64 (pos 0))

@@ -26,10 +26,14 @@ use Rattle.laws.specs.MachineLaws.{zeros-valid, step-valid}
 use Rattle.laws.specs.RunLaws.{run-telescopes}
 
 -- a slot holds the record of that place, 65,535 past the last
-pub slot-holds : (t : List ℕ) (n v k : ℕ) → v < 64 → k < 16 → getD (getD (slotsOf t n) v []) k 65535 ≡ getD (owned t n v) k 65535
+pub slot-holds : (t : List ℕ) (n v k : ℕ)
+    → v < 64
+    → k < 16
+    → getD (getD (slotsOf t n) v []) k 65535 ≡ getD (owned t n v) k 65535
 unfolding slotsOf
 slot-holds t n v k h l =
-    ap (λ (row : List ℕ). getD row k 65535) (tabulate-at (λ w. padded 16 65535 (owned t n w)) 64 v [] h) ∙ padded-at 65535 16 (owned t n v) k l
+    ap (λ (row : List ℕ). getD row k 65535) (tabulate-at (λ w. padded 16 65535 (owned t n w)) 64 v [] h)
+    ∙ padded-at 65535 16 (owned t n v) k l
 
 module _ (t : List ℕ) (e : refusal t ≡ none) (i : ℕ) (h : i < records t) where
   -- the rank of a path among its owner's is the record's rank byte
@@ -63,7 +67,9 @@ pub record Sane (t : List ℕ) : Type 0 where
       → settled (pathsOf t) (present t) (stageCount (pathsOf t) (present t) + n) v
       ≡ settled (pathsOf t) (present t) (stageCount (pathsOf t) (present t)) v
   -- a stuck vertex's next hop is stuck
-  pub stuckOn : (v : ℕ) → isStuck (pathsOf t) (present t) v ≡ true → isStuck (pathsOf t) (present t) (onward (pathsOf t) (present t) v) ≡ true
+  pub stuckOn : (v : ℕ)
+      → isStuck (pathsOf t) (present t) v ≡ true
+      → isStuck (pathsOf t) (present t) (onward (pathsOf t) (present t) v) ≡ true
   -- the ring closes, has 2 vertices or more, all stuck, each once, and begins at its lowest
   pub ring : (v : ℕ)
       → isStuck (pathsOf t) (present t) v ≡ true

@@ -34,7 +34,8 @@ pub pairs-append : (s u : List ℕ) → length s % 2 ≡ 0 → pairsIn (s ++ u) 
 unfolding pairsIn
 pairs-append [] u e = refl
 pairs-append (v ∷ []) u e = absurd (omega arith)
-pairs-append (v ∷ (w ∷ s)) u e = ap (λ (l : List Pair). record { listener = v; speaker = w } ∷ l) (pairs-append s u (omega arith))
+pairs-append (v ∷ (w ∷ s)) u e =
+    ap (λ (l : List Pair). record { listener = v; speaker = w } ∷ l) (pairs-append s u (omega arith))
 
 -- so a run over the bytes of two schedules is a run over the second after a run over the first
 pub run-bytes : (paths : ℕ → List Path) (heard s u : List ℕ)

@@ -50,11 +50,13 @@ module _ (t : List ℕ) (e : refusal t ≡ none) (i : ℕ) (h : i < records t) w
 
   path-byte : (k : ℕ) → k ≤ hopsAt t i → getD (pathAt t i) k 0 ≡ getD (recordAt t i) (2 + k) 0
   unfolding pathOf
-  path-byte k l = getD-take (suc (hopsAt t i)) (drop 2 (recordAt t i)) k 0 (omega arith) ∙ getD-drop 2 (recordAt t i) k 0
+  path-byte k l =
+      getD-take (suc (hopsAt t i)) (drop 2 (recordAt t i)) k 0 (omega arith) ∙ getD-drop 2 (recordAt t i) k 0
 
   vertex-small : (k : ℕ) → k < length (pathAt t i) → getD (pathAt t i) k 0 ≤ 63
   unfolding vertexBad
-  vertex-small k l = inside 0 63 (getD (pathAt t i) k 0) (none-at (outside 0 63) (pathAt t i) 0 (keeps .vertices) k l) .1
+  vertex-small k l =
+      inside 0 63 (getD (pathAt t i) k 0) (none-at (outside 0 63) (pathAt t i) 0 (keeps .vertices) k l) .1
 
   apart : (a b : ℕ) → a < b → b < length (pathAt t i) → getD (pathAt t i) a 0 ≡ getD (pathAt t i) b 0 → ⊥
   unfolding twiceBad
@@ -66,17 +68,26 @@ module _ (t : List ℕ) (e : refusal t ≡ none) (i : ℕ) (h : i < records t) w
 
   filler : (outside 0 0 (getD (recordAt t i) 15 0) ≡ false) × (anyIn (outside 255 255) (unusedOf (recordAt t i)) ≡ false)
   unfolding fillerBad
-  filler = let x = or-none (anyIn (outside 255 255) (unusedOf (recordAt t i))) (outside 0 0 (getD (recordAt t i) 15 0)) (keeps .filler) in (x .1, x .0)
+  filler =
+      let x = or-none (anyIn (outside 255 255) (unusedOf (recordAt t i))) (outside 0 0 (getD (recordAt t i) 15 0))
+      (keeps .filler) in (x .1, x .0)
 
   unused-byte : (k : ℕ) → 3 + hopsAt t i ≤ k → k ≤ 14 → getD (recordAt t i) k 0 ≡ 255
   unfolding unusedOf
   unused-byte k lo hi =
       let m = k - (3 + hopsAt t i) in
       let n : m < 12 - hopsAt t i = omega (arith, hops-range) in
-      let long : m < length (unusedOf (recordAt t i)) = rw (length-take (12 - hopsAt t i) (drop (3 + hopsAt t i) (recordAt t i)), length-drop (3 + hopsAt t i) (recordAt t i)) (omega (arith, sixteen, hops-range)) in
-      let x = inside 255 255 (getD (unusedOf (recordAt t i)) m 0) (none-at (outside 255 255) (unusedOf (recordAt t i)) 0 (filler .1) m long) in
+      let long : m < length (unusedOf (recordAt t i)) = rw (
+        length-take (12 - hopsAt t i) (drop (3 + hopsAt t i) (recordAt t i)),
+        length-drop (3 + hopsAt t i)
+            (recordAt t i),
+      ) (omega (arith, sixteen, hops-range)) in
+      let x = inside 255 255 (getD (unusedOf (recordAt t i)) m 0)
+      (none-at (outside 255 255) (unusedOf (recordAt t i)) 0 (filler .1) m long) in
       let y : 3 + hopsAt t i + m ≡ k = omega arith in
-      let z : getD (unusedOf (recordAt t i)) m 0 ≡ getD (recordAt t i) k 0 = getD-take (12 - hopsAt t i) (drop (3 + hopsAt t i) (recordAt t i)) m 0 n ∙ getD-drop (3 + hopsAt t i) (recordAt t i) m 0 ∙ ap (λ (j : ℕ). getD (recordAt t i) j 0) y in
+      let z : getD (unusedOf (recordAt t i)) m 0 ≡ getD (recordAt t i) k 0 = getD-take (12 - hopsAt t i)
+      (drop (3 + hopsAt t i) (recordAt t i)) m 0 n ∙ getD-drop (3 + hopsAt t i) (recordAt t i) m 0 ∙ ap
+      (λ (j : ℕ). getD (recordAt t i) j 0) y in
       omega arith
 
   -- every record of an accepted table has it
@@ -96,7 +107,9 @@ module _ (t : List ℕ) (e : refusal t ≡ none) (i : ℕ) (h : i < records t) w
 
   pub names : (k : ℕ) → k < length (pathAt t i) → present t (getD (pathAt t i) k 0) ≡ true
   unfolding present
-  names k l = or-right (eqb (getD (pathAt t i) k 0) 0) _ (any-below (λ j. elem (getD (pathAt t i) k 0) (pathAt t j)) (records t) i h (elem-at (pathAt t i) k l))
+  names k l =
+      or-right (eqb (getD (pathAt t i) k 0) 0) _
+      (any-below (λ j. elem (getD (pathAt t i) k 0) (pathAt t j)) (records t) i h (elem-at (pathAt t i) k l))
 
   pub permitted : Permitted (present t) (ownerAt t i) (pathAt t i)
   unfolding twiceBad
@@ -108,13 +121,15 @@ module _ (t : List ℕ) (e : refusal t ≡ none) (i : ℕ) (h : i < records t) w
         vertices = λ k l. omega (arith, vertex-small k l);
         named = names;
         simple = keeps .once;
-        last = let p : pred (length (pathAt t i)) ≡ hopsAt t i = omega (arith, path-length) in rw p (path-byte (hopsAt t i) (omega arith) ∙ ends-in-0);
+        last = let p : pred (length (pathAt t i)) ≡ hopsAt t i = omega (arith, path-length) in rw p
+            (path-byte (hopsAt t i) (omega arith) ∙ ends-in-0);
       }
 
   -- the destination owns nothing: its path would have 0 first and last
   pub owner-positive : ownerAt t i ≡ 0 → ⊥
   owner-positive o =
-      apart 0 (hopsAt t i) (omega (arith, hops-range)) (omega (arith, path-length)) (path-owner (recordAt t i) ∙ o ∙ sym (path-byte (hopsAt t i) (omega arith) ∙ ends-in-0))
+      apart 0 (hopsAt t i) (omega (arith, hops-range)) (omega (arith, path-length))
+      (path-owner (recordAt t i) ∙ o ∙ sym (path-byte (hopsAt t i) (omega arith) ∙ ends-in-0))
 
 empty-of : {A : Type 0} (l : List A) → length l ≡ 0 → l ≡ []
 empty-of [] e = refl
@@ -129,19 +144,22 @@ module _ (t : List ℕ) (e : refusal t ≡ none) where
       let b = here t e v in
       let m = in-place v k l in
       rw (path-in-block t e v k m)
-      (subst (λ (w : ℕ). Permitted (present t) w (pathAt t (b .start + k))) (b .mine (b .start + k) (omega arith) (omega arith)) (permitted t e (b .start + k) (omega (arith, b .within))))
+      (subst (λ (w : ℕ). Permitted (present t) w (pathAt t (b .start + k)))
+      (b .mine (b .start + k) (omega arith) (omega arith)) (permitted t e (b .start + k) (omega (arith, b .within))))
 
   apart-places : (v i j : ℕ) → i < j → j < length (pathsOf t v) → getD (pathsOf t v) i [] ≡ getD (pathsOf t v) j [] → ⊥
   apart-places v i j l h q =
       let b = here t e v in
       let m = in-place v j h in
-      no-path-twice t e (b .start + i) (b .start + j) (omega arith) (omega (arith, b .within)) (sym (path-in-block t e v i (omega arith)) ∙ q ∙ path-in-block t e v j m)
+      no-path-twice t e (b .start + i) (b .start + j) (omega arith) (omega (arith, b .within))
+      (sym (path-in-block t e v i (omega arith)) ∙ q ∙ path-in-block t e v j m)
 
   no-owner-0 : pathsOf t 0 ≡ []
   no-owner-0 =
       let b = here t e 0 in
       empty-of (pathsOf t 0) (paths-length t e 0 ∙ by-test (eqb (b .size) 0) (λ q. eqb-true (b .size) 0 q)
-      (λ q. absurd (let m : 0 < b .size = omega (arith, eqb-false (b .size) 0 q) in owner-positive t e (b .start) (omega (arith, b .within)) (b .mine (b .start) (omega arith) (omega arith)))))
+      (λ q. absurd (let m : 0 < b .size = omega (arith, eqb-false (b .size) 0 q) in owner-positive t e (b .start)
+      (omega (arith, b .within)) (b .mine (b .start) (omega arith) (omega arith)))))
 
   present-range : (v : ℕ) → present t v ≡ true → v < 64
   unfolding present

@@ -83,7 +83,10 @@ Between [] = Unit {0}
 Between (r ∷ rs) = (4 ≤ r .number) × (r .number ≤ 11) × Between rs
 
 module _ (t : List ℕ) (i : ℕ) where
-  broken-range : (rs : List Rule) → Between rs → (firstBroken rs t i ≡ 0 → ⊥) → (4 ≤ firstBroken rs t i) × (firstBroken rs t i ≤ 11)
+  broken-range : (rs : List Rule)
+      → Between rs
+      → (firstBroken rs t i ≡ 0 → ⊥)
+      → (4 ≤ firstBroken rs t i) × (firstBroken rs t i ≤ 11)
   unfolding firstBroken
   broken-range [] b f = absurd (f refl)
   broken-range (r ∷ rs) b f =
@@ -193,7 +196,8 @@ module _ (t : List ℕ) (n : ℕ) (orderly : Orderly t n) where
             least = omega arith;
             most = rank-kept (suc j) h .0;
             fits = omega (arith, b .fits);
-            inside = λ i lo hi. by-equal i (suc j) (λ q. ap (ownerAt t) q) (λ q. b .inside i (omega arith) (omega arith) ∙ sym o);
+            inside = λ i lo hi. by-equal i (suc j) (λ q. ap (ownerAt t) q)
+                (λ q. b .inside i (omega arith) (omega arith) ∙ sym o);
             before = λ i lo. omega (arith, b .before i (omega arith));
           }
 
@@ -203,7 +207,10 @@ unfolding pathOf ownerOf
 path-owner r = getD-take (suc (hopsOf r)) (drop 2 r) 0 0 (omega arith) ∙ getD-drop 2 r 0 0
 
 -- records before the owner's block have other paths
-pub others-differ : (t : List ℕ) (i j : ℕ) → Orderly t (i + 1) → j + rankAt t i ≤ i → same (pathAt t j) (pathAt t i) ≡ false
+pub others-differ : (t : List ℕ) (i j : ℕ)
+    → Orderly t (i + 1)
+    → j + rankAt t i ≤ i
+    → same (pathAt t j) (pathAt t i) ≡ false
 others-differ t i j o h =
     differ (pathAt t j) (pathAt t i)
     (λ e. let owner : (j : ℕ) → getD (pathAt t j) 0 0 ≡ ownerAt t j = λ j. path-owner (recordAt t j) in
@@ -243,28 +250,37 @@ unused-part r h e =
 
 -- the rules that look at the record before, where there is one
 
-module _ (t : List ℕ) (i x y : ℕ) (later : i ≡ 0 → ⊥) (here : x ≡ ownerAt t i) (before : y ≡ ownerAt t (i - 1)) where
+module _ (t : List ℕ) (i : ℕ) {x y : ℕ} (later : i ≡ 0 → ⊥) (here : x ≡ ownerAt t i) (before : y ≡ ownerAt t (i - 1)) where
   one-back : i ≡ suc (i - 1)
   one-back = omega (arith, later)
 
   pub owner-bad-later : ltb x y ≡ ownerBad t i
   unfolding ownerBad
-  owner-bad-later = rw (here, before) (sym (ap (ownerBad t) one-back ∙ ap (λ (k : ℕ). ltb (ownerAt t k) (ownerAt t (i - 1))) (sym one-back)))
+  owner-bad-later =
+      rw (here, before)
+      (sym (ap (ownerBad t) one-back ∙ ap (λ (k : ℕ). ltb (ownerAt t k) (ownerAt t (i - 1))) (sym one-back)))
 
   pub rank-due-new : (x ≡ y → ⊥) → 1 ≡ rankDue t i
-  rank-due-new f = sym (ap (rankDue t) one-back ∙ due-new t (i - 1) (λ e. f (here ∙ ap (ownerAt t) one-back ∙ e ∙ sym before)))
+  rank-due-new f =
+      sym (ap (rankDue t) one-back ∙ due-new t (i - 1) (λ e. f (here ∙ ap (ownerAt t) one-back ∙ e ∙ sym before)))
 
-  pub rank-due-same : (n : ℕ) → x ≡ y → n ≡ rankAt t (i - 1) → n + 1 ≡ rankDue t i
-  rank-due-same n e r =
-      rw (r, add-one) (sym (ap (rankDue t) one-back ∙ due-same t (i - 1) (sym (ap (ownerAt t) one-back) ∙ sym here ∙ e ∙ before)))
+  pub rank-due-same : {n : ℕ} → x ≡ y → n ≡ rankAt t (i - 1) → n + 1 ≡ rankDue t i
+  rank-due-same {n} e r =
+      rw (r, add-one) (sym (ap (rankDue t) one-back ∙ due-same t (i - 1)
+      (sym (ap (ownerAt t) one-back) ∙ sym here ∙ e ∙ before)))
 
 -- the test of 8, from what was read of the record
-pub last-seen : (r R : List ℕ) (h b : ℕ) (x : Bool) → r ≡ R → h ≡ hopsOf R → b ≡ getD r (h + 2) 0 → x ≡ outside 0 0 b → x ≡ lastBad R
+pub last-seen : {r R : List ℕ} {h b : ℕ} {x : Bool}
+    → r ≡ R
+    → h ≡ hopsOf R
+    → b ≡ getD r (h + 2) 0
+    → x ≡ outside 0 0 b
+    → x ≡ lastBad R
 unfolding lastBad
-last-seen r R h b x e k m q = let n : h + 2 ≡ 2 + hopsOf R = omega arith in q ∙ rw (m, n, e)
+last-seen {r} {R} {h} {b} {x} e k m q = let n : h + 2 ≡ 2 + hopsOf R = omega arith in q ∙ rw (m, n, e)
 
 -- the tests of 6 and 10, from what was read of the record
-module _ (r R : List ℕ) (h : ℕ) (b : Bool) (e : r ≡ R) (k : h ≡ hopsOf R)
+module _ {r R : List ℕ} {h : ℕ} {b : Bool} (e : r ≡ R) (k : h ≡ hopsOf R)
     (look : b ≡ anyIn (outside 255 255) (take (15 - (h + 3)) (drop (h + 3) r))) where
   unused-seen : anyIn (outside 255 255) (unusedOf R) ≡ b
   unused-seen = rw (← (unused-part R h k), ← e) (sym look)
@@ -273,9 +289,9 @@ module _ (r R : List ℕ) (h : ℕ) (b : Bool) (e : r ≡ R) (k : h ≡ hopsOf R
   unfolding fillerBad
   filler-hit q = sym (or-left (anyIn (outside 255 255) (unusedOf R)) (outside 0 0 (getD R 15 0)) (unused-seen ∙ q))
 
-  pub filler-rest : (x : Bool) → b ≡ false → x ≡ outside 0 0 (getD r 15 0) → x ≡ fillerBad R
+  pub filler-rest : {x : Bool} → b ≡ false → x ≡ outside 0 0 (getD r 15 0) → x ≡ fillerBad R
   unfolding fillerBad
-  filler-rest x q g = g ∙ rw (unused-seen ∙ q, e)
+  filler-rest {x} q g = g ∙ rw (unused-seen ∙ q, e)
 
 module _ (t : List ℕ) (i x : ℕ) (e : x ≡ rankAt t i) where
   pub rank-high : 16 < x → true ≡ rankBad t i

@@ -1,5 +1,5 @@
--- Laws of the printed text: what the digits of a number say, how long the text is at most, and that the check's answer prints as the
--- table's text.
+-- Laws of the printed text: what the digits of a number say, how long the text is at most, and that the check's answer
+-- prints as the table's text.
 use mathlib.Core.Path.{_≡_, refl, sym, ap, _∙_}
 use mathlib.Core.Logic.{_≢_}
 use mathlib.Core.Bool.{true, false}
@@ -49,7 +49,13 @@ digits-most zero n = omega (arith, ap length (digits-none n))
 digits-most (suc k) n =
     by-equal (n / 10) 0
     (λ e. omega (arith, ap length (digits-one k n e)))
-    (λ e. omega (arith, ap length (digits-more k n e), length-append (digitsIn k (n / 10)) ((48 + n % 10) ∷ []), digits-most k (n / 10)))
+    (λ e. omega (
+      arith,
+      ap length (digits-more k n e),
+      length-append (digitsIn k (n / 10))
+          ((48 + n % 10) ∷ []),
+      digits-most k (n / 10),
+    ))
 
 -- the value of digits, the first one the highest
 unfoldable pub valueOf : List ℕ → ℕ
@@ -100,7 +106,13 @@ digits-few (suc k) zero n h = let e : n / 10 ≡ 0 = omega (arith, pow-succ' 10 
 digits-few (suc k) (suc j) n h =
     by-equal (n / 10) 0
     (λ e. omega (arith, ap length (digits-one k n e)))
-    (λ e. omega (arith, ap length (digits-more k n e), length-append (digitsIn k (n / 10)) ((48 + n % 10) ∷ []), digits-few k j (n / 10) (less-digits (suc j) n h)))
+    (λ e. omega (
+      arith,
+      ap length (digits-more k n e),
+      length-append (digitsIn k (n / 10))
+          ((48 + n % 10) ∷ []),
+      digits-few k j (n / 10) (less-digits (suc j) n h),
+    ))
 
 pub decimal-few : (n : ℕ) → n < 100 → length (decimal n) ≤ 2
 unfolding decimal
@@ -117,7 +129,13 @@ pub spaced-few : (ns : List ℕ) → ((k : ℕ) → k < length ns → getD ns k 
 unfolding spaced labelled codes
 spaced-few [] h = omega arith
 spaced-few (n ∷ ns) h =
-    omega (arith, length-append (decimal n) (spaced ns), decimal-few n (h 0 (omega arith)), spaced-few ns (λ k l. h (suc k) (omega arith)))
+    omega (
+      arith,
+      length-append (decimal n) (spaced ns),
+      decimal-few n (h 0 (omega arith)),
+      spaced-few ns
+          (λ k l. h (suc k) (omega arith)),
+    )
 
 spaced-append : (ns : List ℕ) (n : ℕ) → spaced (ns ++ n ∷ []) ≡ spaced ns ++ labelled " " n
 unfolding spaced
@@ -125,7 +143,9 @@ spaced-append [] n = append-nil (labelled " " n)
 spaced-append (m ∷ ns) n = rw (spaced-append ns n) (simp append-assoc)
 
 -- one more number behind those before it
-pub spaced-more : (ns : List ℕ) (k : ℕ) → k < length ns → spaced (take k ns) ++ labelled " " (getD ns k 0) ≡ spaced (take (k + 1) ns)
+pub spaced-more : (ns : List ℕ) (k : ℕ)
+    → k < length ns
+    → spaced (take k ns) ++ labelled " " (getD ns k 0) ≡ spaced (take (k + 1) ns)
 spaced-more ns k h =
     rw (add-one, take-suc ns k 0 h) (sym (spaced-append (take k ns) (getD ns k 0)))
 
@@ -174,19 +194,22 @@ module _ (row : List ℕ) (b : ℕ) where
   unfolding rowLine
   row-absent v e h = rw (eq-eqb (getD row 0 0) 254 (sym e ∙ h), rowLine)
 
-  pub row-present : (v rank : ℕ) (path : List ℕ)
+  pub row-present : (v : ℕ) {rank : ℕ} {path : List ℕ}
       → b ≡ getD row 0 0
       → b ≢ 254
       → rank ≡ getD row 1 0
       → path ≡ rowPath row
       → decimal v ++ stageWords row ++ routeWords rank path ++ codes "\n" ≡ rowLine v row
   unfolding rowLine
-  row-present v rank path e h q p = rw (q, p, ne-eqb (getD row 0 0) 254 (λ q. h (e ∙ q)), rowLine)
+  row-present v {rank} {path} e h q p = rw (q, p, ne-eqb (getD row 0 0) 254 (λ q. h (e ∙ q)), rowLine)
 
 -- a row's path, as a part of the row
 
 module _ (row : List ℕ) where
-  pub row-path-part : (h e : ℕ) → h ≡ getD row 2 0 → e ≡ min (h + 4) (length row) → take (e - 3) (drop 3 row) ≡ rowPath row
+  pub row-path-part : (h e : ℕ)
+      → h ≡ getD row 2 0
+      → e ≡ min (h + 4) (length row)
+      → take (e - 3) (drop 3 row) ≡ rowPath row
   unfolding rowPath
   row-path-part h e q m = part-clipped row 3 (getD row 2 0 + 1) e (omega arith)
 
@@ -195,7 +218,9 @@ module _ (row : List ℕ) where
   row-path-short h = rw (drop-of-length-le row {i = 3} (omega arith)) (sym (take-nil (getD row 2 0 + 1)))
 
 -- the ring's vertices, as a part of the ring's buffer
-pub ring-part : (ring : List ℕ) (n e : ℕ) → e ≡ min n (length ring) → codes "ring" ++ spaced (take e ring) ++ codes "\n" ≡ ringLine n ring
+pub ring-part : (ring : List ℕ) (n e : ℕ)
+    → e ≡ min n (length ring)
+    → codes "ring" ++ spaced (take e ring) ++ codes "\n" ≡ ringLine n ring
 unfolding ringLine
 ring-part ring n e q =
     let z : e - 0 ≡ e = omega arith in
@@ -208,7 +233,9 @@ pub rows-none : (rows : List ℕ) → [] ≡ rowLines rows 0
 unfolding rowLines
 rows-none rows = sym (blocks-none (λ k. rowLine (k + 1) (rowAt rows (k + 1))))
 
-pub rows-more : (rows row : List ℕ) (v : ℕ) → row ≡ recordAt rows (v + 1) → rowLines rows v ++ rowLine (v + 1) row ≡ rowLines rows (v + 1)
+pub rows-more : (rows row : List ℕ) (v : ℕ)
+    → row ≡ recordAt rows (v + 1)
+    → rowLines rows v ++ rowLine (v + 1) row ≡ rowLines rows (v + 1)
 unfolding rowLines recordAt rowAt
 rows-more rows row v e =
     let line : ℕ → List ℕ = λ k. rowLine (k + 1) (rowAt rows (k + 1)) in
@@ -221,7 +248,8 @@ unfolding labelled codes
 place-most n k =
     by-test (outside 4 11 n)
     (λ q. by-equal n 12 (λ e. rw (← (place-offset n k e)) (omega (arith, decimal-most k)))
-    (λ f. by-equal n 14 (λ e. rw (← (place-pair n k e)) (omega (arith, decimal-most k))) (λ g. rw (← (place-none n k q f g)) (omega arith))))
+    (λ f. by-equal n 14 (λ e. rw (← (place-pair n k e)) (omega (arith, decimal-most k)))
+    (λ g. rw (← (place-none n k q f g)) (omega arith))))
     (λ q. rw (← (place-record n k q)) (omega (arith, decimal-most k)))
 
 pub refused-most : (n k : ℕ) → length (refusedLine n k) ≤ 37
@@ -239,16 +267,25 @@ route-most rank m path h =
 verdict-most : (name numbers : List ℕ) → length name ≤ 8 → length (verdictLine name numbers) ≤ 90
 unfolding verdictLine labelled codes
 verdict-most name numbers h =
-    simp length-append (omega (arith, decimal-most (getD numbers 1 0), decimal-most (getD numbers 2 0), decimal-most (getD numbers 3 0), decimal-most (getD numbers 4 0)))
+    simp length-append (omega (
+      arith,
+      decimal-most (getD numbers 1 0),
+      decimal-most (getD numbers 2 0),
+      decimal-most
+          (getD numbers 3 0),
+      decimal-most (getD numbers 4 0),
+    ))
 
 stage-most : (row : List ℕ) → length (stageWords row) ≤ 17
 unfolding stageWords labelled codes
 stage-most row =
-    by-test (eqb (getD row 0 0) 255) (λ q. rw (q, stageWords) (omega arith)) (λ q. rw (q, stageWords) (omega (arith, decimal-most (getD row 0 0))))
+    by-test (eqb (getD row 0 0) 255) (λ q. rw (q, stageWords) (omega arith))
+    (λ q. rw (q, stageWords) (omega (arith, decimal-most (getD row 0 0))))
 
 path-most : (row : List ℕ) → length row ≤ 16 → length (spaced (rowPath row)) ≤ 143
 unfolding rowPath
-path-most row h = omega (arith, spaced-most (rowPath row), length-take (getD row 2 0 + 1) (drop 3 row), length-drop 3 row)
+path-most row h =
+    omega (arith, spaced-most (rowPath row), length-take (getD row 2 0 + 1) (drop 3 row), length-drop 3 row)
 
 row-short : (v : ℕ) (rows : List ℕ) → length (rowAt rows v) ≤ 16
 unfolding rowAt
@@ -259,7 +296,8 @@ unfolding rowLine codes
 row-most v rows =
     let r = rowAt rows v in
     by-test (eqb (getD r 0 0) 254) (λ q. rw (q, rowLine) (omega arith))
-    (λ q. rw (q, rowLine) (simp length-append (omega (arith, decimal-most v, stage-most r, route-most (getD r 1 0) 143 (rowPath r) (path-most r (row-short v rows))))))
+    (λ q. rw (q, rowLine) (simp length-append (omega
+    (arith, decimal-most v, stage-most r, route-most (getD r 1 0) 143 (rowPath r) (path-most r (row-short v rows))))))
 
 rows-most : (rows : List ℕ) → length (rowLines rows 63) ≤ 12096
 unfolding rowLines
@@ -270,10 +308,18 @@ unfolding ringLine codes
 ring-most n ring h = simp length-append (omega (arith, spaced-most (take n ring), length-take n ring))
 
 -- the text fits 16,384 bytes
-pub text-fits : (v : Verdict) (numbers rows ring : List ℕ) → length ring ≤ 64 → length (textOf v numbers rows ring) ≤ 16384
+pub text-fits : (v : Verdict) (numbers rows ring : List ℕ)
+    → length ring ≤ 64
+    → length (textOf v numbers rows ring) ≤ 16384
 unfolding textOf codes
 text-fits complete numbers rows ring h =
-    omega (arith, length-append (verdictLine (codes "complete") numbers) (rowLines rows 63), verdict-most (codes "complete") numbers (omega arith), rows-most rows)
+    omega (
+      arith,
+      length-append (verdictLine (codes "complete") numbers) (rowLines rows 63),
+      verdict-most
+          (codes "complete") numbers (omega arith),
+      rows-most rows,
+    )
 text-fits (stuck n) numbers rows ring h =
     simp length-append (omega (arith, verdict-most (codes "stuck") numbers (omega arith), rows-most rows, ring-most n ring h))
 text-fits (refused n k) numbers rows ring h = omega (arith, refused-most n k)

@@ -63,7 +63,8 @@ pub is-tabulate : {A : Type 0} (f : ℕ → A) (d : A) (n : ℕ) (l : List A)
     → ((i : ℕ) → i < n → getD l i d ≡ f i)
     → l ≡ tabulate f n
 is-tabulate f d n l e h =
-    ext-getD d l (tabulate f n) (e ∙ sym (tabulate-length f n)) (λ i k. h i (omega arith) ∙ sym (tabulate-at f n i d (omega arith)))
+    ext-getD d l (tabulate f n) (e ∙ sym (tabulate-length f n))
+    (λ i k. h i (omega arith) ∙ sym (tabulate-at f n i d (omega arith)))
 
 pub tabulate-ext : {A : Type 0} (f g : ℕ → A) (n : ℕ) → ((i : ℕ) → i < n → f i ≡ g i) → tabulate f n ≡ tabulate g n
 tabulate-ext f g zero h = tabulate-none f ∙ sym (tabulate-none g)
@@ -115,7 +116,8 @@ module _ {A : Type 0} (f : ℕ → List A) where
     pub blocks-length : (n : ℕ) → length (blocks f n) ≡ size * n
     blocks-length zero = ap length blocks-none ∙ omega arith
     blocks-length (suc n) =
-        ap length (blocks-suc n) ∙ length-append (blocks f n) (f n) ∙ rw (mul-suc size n) (omega (arith, blocks-length n, sized n))
+        ap length (blocks-suc n) ∙ length-append (blocks f n) (f n) ∙ rw (mul-suc size n)
+        (omega (arith, blocks-length n, sized n))
 
     -- the block i of n
     pub blocks-at : (n i : ℕ) → i < n → take size (drop (size * i) (blocks f n)) ≡ f i
@@ -210,7 +212,8 @@ pub mark-list : (P Q : ℕ → Bool) (n : ℕ) (ns : List ℕ)
 unfolding marked
 mark-list P Q n [] h = tabulate-ext P Q n (λ v l. sym (h v l ∙ rw (elem-nil v, or-false)))
 mark-list P Q n (x ∷ xs) h =
-    ap (λ (l : List Bool). marked l xs) (mark-one P (λ v. P v || eqb v x) n x (λ v l. refl)) ∙ mark-list (λ v. P v || eqb v x) Q n xs
+    ap (λ (l : List Bool). marked l xs) (mark-one P (λ v. P v || eqb v x) n x (λ v l. refl)) ∙ mark-list
+    (λ v. P v || eqb v x) Q n xs
     (λ v l. h v l ∙ rw (elem-cons v x xs) (sym (or-assoc (P v) (eqb v x) (elem v xs))))
 
 -- marks set one after the other, in a walk that has come to k
@@ -240,7 +243,8 @@ module _ {A : Type 0} (f : ℕ → A) where
   pub fill-end : (l : List A) (k n : ℕ) → take k l ≡ tabulate f k → n ≡ length l → k ≡ n → l ≡ tabulate f n
   fill-end l k n e q r = sym (take-all n l (omega arith)) ∙ (rw r at e)
 
--- padded to n with two lists end to end: the first list's places are those of the first alone, and behind them the second is padded
+-- padded to n with two lists end to end: the first list's places are those of the first alone, and behind them the
+-- second is padded
 pub padded-append : {A : Type 0} (x : A) (n : ℕ) (a b : List A) (m : ℕ)
     → m ≡ min (length a) n
     → take m (padded n x a) ++ padded (n - m) x b ≡ padded n x (a ++ b)
@@ -260,7 +264,9 @@ module _ (p : List ℕ) (n : ℕ) where
   met i v = elem v (take i p)
 
   pub met-none : replicate n false ≡ tabulate (met 0) n
-  met-none = is-tabulate (met 0) false n (replicate n false) (length-replicate n false) (λ v h. alike-at n v false ∙ sym (elem-nil v))
+  met-none =
+      is-tabulate (met 0) false n (replicate n false) (length-replicate n false)
+      (λ v h. alike-at n v false ∙ sym (elem-nil v))
 
   module _ (i : ℕ) (marks : List Bool) where
     pub met-look : (v : ℕ) (d : Bool) → marks ≡ tabulate (met i) n → v < n → getD marks v d ≡ elem v (take i p)

@@ -1,4 +1,5 @@
--- Laws of the fold from the left: step and end, two folds one after the other, what a fold keeps, and how a part of the state goes.
+-- Laws of the fold from the left: step and end, two folds one after the other, what a fold keeps, and how a part of the
+-- state goes.
 use mathlib.Core.Path.{_≡_, refl, ap, _∙_}
 use mathlib.Core.List.{List, [], _∷_, _++_, append-nil, append-assoc}
 use Prim.Native.Nat.{ℕ, suc, _+_, _<_}

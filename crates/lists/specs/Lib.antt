@@ -5,6 +5,7 @@ pub mod Fill
 pub mod Fold
 pub mod Renew
 -- The laws.
+pub mod Results
 pub mod Tests
 pub mod NumberLaws
 pub mod SignedLaws

@@ -1,4 +1,5 @@
--- Laws of the elements of a list: its fronts, whether any passes, the first that does, which numbers stand in it, which twice, and what same lists are.
+-- Laws of the elements of a list: its fronts, whether any passes, the first that does, which numbers stand in it, which
+-- twice, and what same lists are.
 use mathlib.Core.Path.{_≡_, refl, sym, ap, _∙_}
 use mathlib.Core.Logic.{⊎-elim}
 use mathlib.Core.Bool.{Bool, true, false, _||_, or-assoc, or-false}
@@ -93,7 +94,9 @@ module _ {A : Type 0} (test : ℕ → A → Bool) where
   unfolding firstIn
   first-in-hit i x xs e = rw (e, firstIn)
 
-  pub first-in-miss : (i : ℕ) (x : A) (xs : List A) → test i x ≡ false → firstIn test i (x ∷ xs) ≡ firstIn test (suc i) xs
+  pub first-in-miss : (i : ℕ) (x : A) (xs : List A)
+      → test i x ≡ false
+      → firstIn test i (x ∷ xs) ≡ firstIn test (suc i) xs
   unfolding firstIn
   first-in-miss i x xs e = rw (e, firstIn)
 
@@ -255,7 +258,8 @@ once-more (y ∷ l) x t e =
     let s = or-none (elem y l) (twice l) t in
     let f = or-none (eqb x y) (elem x l) (sym (elem-cons x y l) ∙ e) in
     neither (elem y (l ++ x ∷ [])) (twice (l ++ x ∷ []))
-    (elem-more y l x ∙ neither (elem y l) (eqb y x) (s .0) (ne-eqb y x (λ q. eqb-false x y (f .0) (sym q)))) (once-more l x (s .1) (f .1))
+    (elem-more y l x ∙ neither (elem y l) (eqb y x) (s .0) (ne-eqb y x (λ q. eqb-false x y (f .0) (sym q))))
+    (once-more l x (s .1) (f .1))
 
 -- a walk that has come to i meets a number that it met before, or one that is new
 
@@ -270,7 +274,10 @@ module _ (p : List ℕ) (i : ℕ) where
       by-test (twice p) sym
       (λ q. absurd (twice-apart p q (r .0) i k h (sym (getD-take i p (r .0) 0 k) ∙ r .2)))
 
-  pub met-new : i < length p → twice (take i p) ≡ false → elem (getD p i 0) (take i p) ≡ false → twice (take (i + 1) p) ≡ false
+  pub met-new : i < length p
+      → twice (take i p) ≡ false
+      → elem (getD p i 0) (take i p) ≡ false
+      → twice (take (i + 1) p) ≡ false
   met-new h t e = rw (add-one, take-suc p i 0 h) (once-more (take i p) (getD p i 0) t e)
 
   pub met-all : length p ≤ i → twice (take i p) ≡ false → false ≡ twice p

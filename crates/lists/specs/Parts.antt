@@ -23,7 +23,8 @@ module _ {A : Type 0} where
   part-clipped l a n e q =
       let d = length-drop a l in
       by-test (ltb (length l) (a + n))
-      (λ x. let m = ltb-true (length l) (a + n) x in take-all (e - a) (drop a l) (omega arith) ∙ sym (take-all n (drop a l) (omega arith)))
+      (λ x. let m = ltb-true (length l) (a + n) x in take-all (e - a) (drop a l) (omega arith) ∙ sym
+      (take-all n (drop a l) (omega arith)))
       (λ x. let m = ltb-false (length l) (a + n) x in let k : e - a ≡ n = omega arith in rw k)
 
   -- the rest from k of the first n is the part from k to n

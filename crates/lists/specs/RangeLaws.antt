@@ -27,13 +27,18 @@ pub those-range :
     ((i : ℕ) → i < n → test i ≡ true → (start ≤ i) × (i < start + size)) →
     thoseBelow test n ≡ tabulate (λ k. start + k) size
 those-range test start n zero h p q =
-    those-empty test n (λ i l. by-test (test i) (λ e. absurd (let r = q i l e in omega arith)) (λ e. e)) ∙ sym (tabulate-none (λ k. start + k))
+    those-empty test n (λ i l. by-test (test i) (λ e. absurd (let r =
+    q i l e in omega arith)) (λ e. e)) ∙ sym (tabulate-none (λ k. start + k))
 those-range test start zero (suc size) h p q = absurd (omega arith)
 those-range test start (suc n) (suc size) h p q =
     by-test (eqb (start + size) n)
     (λ e. let last : start + size ≡ n = eqb-true (start + size) n e in
     those-in test n (p n (omega arith) (omega arith))
-    ∙ rw (those-range test start n size (omega arith) (λ i lo hi. p i lo (omega arith)) (λ i l t. let r = q i (omega arith) t in (r .0, omega (arith, r .1))), ← last)
+    ∙ rw (
+      those-range test start n size (omega arith) (λ i lo hi. p i lo (omega arith))
+          (λ i l t. let r = q i (omega arith) t in (r .0, omega (arith, r .1))),
+      ← last,
+    )
     (sym (tabulate-suc (λ k. start + k) size)))
     (λ e. let short : start + suc size ≤ n = omega (arith, eqb-false (start + size) n e) in
     those-out test n (by-test (test n) (λ t. absurd (let r = q n (omega arith) t in omega arith)) (λ t. t))
@@ -68,7 +73,14 @@ those-add test m (suc n) =
     let z : m + suc n ≡ suc (m + n) = omega arith in
     let further : List ℕ = thoseBelow (λ k. test (m + k)) n in
     by-test (test (m + n))
-    (λ q. rw (z, those-in test (m + n) q, those-in (λ k. test (m + k)) n q, map-append (λ k. m + k) further (n ∷ []), those-add test m n)
+    (λ q. rw (
+      z,
+      those-in test (m + n) q,
+      those-in (λ k. test (m + k)) n q,
+      map-append (λ k. m + k) further
+          (n ∷ []),
+      those-add test m n,
+    )
     (append-assoc (thoseBelow test m) (map (λ k. m + k) further) ((m + n) ∷ [])))
     (λ q. rw (z, those-out test (m + n) q, those-out (λ k. test (m + k)) n q) (those-add test m n))
 
@@ -80,10 +92,13 @@ those-blocks test size zero =
     rw z (those-none test ∙ sym (blocks-none (λ b. map (λ k. size * b + k) (thoseBelow (λ k. test (size * b + k)) size))))
 those-blocks test size (suc n) =
     let part : ℕ → List ℕ = λ b. map (λ k. size * b + k) (thoseBelow (λ k. test (size * b + k)) size) in
-    rw (mul-suc size n) (those-add test (size * n) size ∙ ap (λ (l : List ℕ). l ++ part n) (those-blocks test size n) ∙ sym (blocks-suc part n))
+    rw (mul-suc size n) (those-add test (size * n) size ∙ ap (λ (l : List ℕ). l ++ part n) (those-blocks test size n)
+    ∙ sym (blocks-suc part n))
 
 -- an element of a map is the map of the element
-pub map-at : {A B : Type 0} (f : A → B) (l : List A) (k : ℕ) (d : A) (e : B) → k < length l → getD (map f l) k e ≡ f (getD l k d)
+pub map-at : {A B : Type 0} (f : A → B) (l : List A) (k : ℕ) (d : A) (e : B)
+    → k < length l
+    → getD (map f l) k e ≡ f (getD l k d)
 map-at f [] k d e h = absurd (not-suc-le-zero h)
 map-at f (x ∷ xs) zero d e h = refl
 map-at f (x ∷ xs) (suc k) d e h = map-at f xs k d e (omega arith)

@@ -71,4 +71,5 @@ module _ {A : Type 0} (f : ℕ → List A) (n : ℕ) (even : (k : ℕ) → lengt
   pub block-first : (l ys : List A) → n ≤ length l → ys ≡ f 0 → take n (ys ++ drop n l) ≡ blocks f 1
   block-first l ys room next =
       let z : n ≡ length ys = omega (arith, even 0, ap length next) in
-      rw z (take-append-seam ys (drop (length ys) l)) ∙ next ∙ sym (blocks-suc f 0 ∙ ap (λ (x : List A). x ++ f 0) (blocks-none f))
+      rw z (take-append-seam ys (drop (length ys) l)) ∙ next ∙ sym
+      (blocks-suc f 0 ∙ ap (λ (x : List A). x ++ f 0) (blocks-none f))

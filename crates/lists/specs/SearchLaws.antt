@@ -1,4 +1,5 @@
--- Laws of the numbers below a bound: the first that passes a test, whether any does, which and how many do, and the greatest value.
+-- Laws of the numbers below a bound: the first that passes a test, whether any does, which and how many do, and the
+-- greatest value.
 use mathlib.Core.Path.{_≡_, refl, sym, ap, _∙_}
 use mathlib.Core.Logic.{_≢_, ⊎-elim}
 use mathlib.Core.Bool.{Bool, true, false, not, _&&_, _||_, or-false}
@@ -66,10 +67,14 @@ module _ (test : ℕ → Bool) where
   first-none i (suc n) e j lo hi =
       by-test (test i)
       (λ q. absurd (none≢some e (first-hit i n q)))
-      (λ q. by-equal j i (λ r. ap test r ∙ q) (λ r. first-none (suc i) n (sym (first-miss i n q) ∙ e) j (omega arith) (omega arith)))
+      (λ q. by-equal j i (λ r. ap test r ∙ q) (λ r. first-none (suc i) n (sym (first-miss i n q) ∙ e) j (omega arith)
+      (omega arith)))
 
   -- a search in which some number passes finds the first that does, whatever stands for none
-  pub finds-passing : (n d k : ℕ) → k < n → test k ≡ true → Found 0 n (elim (firstFrom test 0 n) [ none ↦ d | some s ↦ s ])
+  pub finds-passing : (n d k : ℕ)
+      → k < n
+      → test k ≡ true
+      → Found 0 n (elim (firstFrom test 0 n) [ none ↦ d | some s ↦ s ])
   finds-passing n d k h e = go (firstFrom test 0 n) refl
     where
       go : (o : Option ℕ) → firstFrom test 0 n ≡ o → Found 0 n (elim o [ none ↦ d | some s ↦ s ])
@@ -153,7 +158,8 @@ module _ (f g : ℕ → Bool) where
       → countBelow f (suc n) + d ≤ countBelow g (suc n)
   count-step n d h r =
       by-test (f n) (λ q. omega (arith, count-in f n q, count-in g n (h q)))
-      (λ q. by-test (g n) (λ p. omega (arith, count-out f n q, count-in g n p)) (λ p. omega (arith, count-out f n q, count-out g n p)))
+      (λ q. by-test (g n) (λ p. omega (arith, count-out f n q, count-in g n p))
+      (λ p. omega (arith, count-out f n q, count-out g n p)))
 
   -- the second count is no smaller
   pub count-mono : (n : ℕ) → ((k : ℕ) → k < n → f k ≡ true → g k ≡ true) → countBelow f n ≤ countBelow g n
@@ -283,7 +289,8 @@ module _ (test : ℕ → Bool) (n i : ℕ) (o : Option ℕ) (come : firstFrom te
 
   pub search-next : i < n → test i ≡ false → firstFrom test (i + 1) (n - (i + 1)) ≡ o
   search-next h e =
-      ap (λ (k : ℕ). firstFrom test k (n - (i + 1))) (add-one i) ∙ sym (first-miss test i (n - (i + 1)) e) ∙ (rw (left-over h) at come)
+      ap (λ (k : ℕ). firstFrom test k (n - (i + 1))) (add-one i) ∙ sym (first-miss test i (n - (i + 1)) e) ∙
+      (rw (left-over h) at come)
 
   pub search-end : n ≤ i → o ≡ none
   search-end h = let z : n - i ≡ 0 = omega arith in sym (rw z at come) ∙ first-end test i

@@ -33,7 +33,10 @@ back z = toZ w32 (ofZ w32 z)
 
 module _ (n : ℤ) (fits : SFits w32 n) where
   -- not below 0, its size fits a width of 32 bits or more
-  pub size-plain : (w : Width) → T (ltb (hbits w32) (bits w)) → leZ (pos 0) (back n) ≡ true → T (nonNeg (back n)) × Fits w (natAbs (back n))
+  pub size-plain : (w : Width)
+      → T (ltb (hbits w32) (bits w))
+      → leZ (pos 0) (back n) ≡ true
+      → T (nonNeg (back n)) × Fits w (natAbs (back n))
   size-plain w t h = (plain (back n) h, rw (toZ-ofZ fits) (fits-natAbs t fits))
 
   module _ (h : leZ (pos 0) (back n) ≡ false) where

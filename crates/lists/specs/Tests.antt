@@ -1,6 +1,6 @@
 -- Laws of tests: what a test says that holds or fails, and a test, two numbers or an option taken by cases.
 use mathlib.Core.Path.{_≡_, refl, sym, _∙_}
-use mathlib.Core.Logic.{_≢_, _⊎_, inl, inr, ⊎-map}
+use mathlib.Core.Logic.{_≢_, _⊎_, inl, inr}
 use mathlib.Core.Bool.{Bool, true, false, _&&_, _||_}
 use mathlib.Core.Option.{Option, none, some}
 use Prim.Native.Nat.{ℕ, _<_, _≤_}
@@ -9,8 +9,12 @@ use lib.Dec.{ltb, eqb}
 use borrow.Author.Tests.{eqb-true, eqb-false, eq-eqb, ne-eqb, ltb-true, ltb-false, lt-ltb, le-ltb}
 use Rattle.lists.specs.Search.{outside}
 
+-- what holds where two different cases are called equal: `cc` then says that 0 is 1
+pub impossible : {C : Type 0} → _≡_ {A = ℕ} 0 1 → C
+impossible z = absurd (omega (arith, z))
+
 pub true≢ : {b : Bool} → b ≡ true → b ≡ false → ⊥
-true≢ {b} p q = let z : _≡_ {A = ℕ} 0 1 = cc in omega arith
+true≢ {b} p q = impossible cc
 
 -- by cases: a test holds or fails, two numbers are equal or not, one is below the other or not
 
@@ -92,10 +96,6 @@ module _ (low high n : ℕ) where
   unfolding outside
   above-out p = or-right (ltb n low) (ltb high n) (lt-ltb high n p)
 
-  pub outside-cases : outside low high n ≡ true → (n < low) ⊎ (high < n)
-  unfolding outside
-  outside-cases e = ⊎-map (ltb-true n low) (ltb-true high n) (or-cases (ltb n low) (ltb high n) e)
-
 -- an option by cases, and that its two cases differ
 
 module _ {A : Type 0} where
@@ -104,4 +104,4 @@ module _ {A : Type 0} where
   by-option (some a) f g = g a refl
 
   pub none≢some : {o : Option A} {a : A} → o ≡ none → o ≡ some a → ⊥
-  none≢some {o} {a} d e = let z : _≡_ {A = ℕ} 0 1 = cc in omega arith
+  none≢some {o} {a} d e = impossible cc

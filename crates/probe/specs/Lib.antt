@@ -1,2 +1,2 @@
 pub mod Numbers
-pub mod NumberLaws
+pub mod ProbeLaws

@@ -1,12 +1,11 @@
-// What the entries for C do not show, for tests outside Rattle: the reader, the facts and the texts, thin over the proved crates.
+// What the entries for C do not show, for tests outside Rattle: the reader, the facts and the texts, thin over the
+// proved crates.
 ghost use mathlib.Core.Path.{_≡_};
 ghost use Rattle.rules.specs.Table.{longest, present, pathsOf, listensAt};
-ghost use Prim.Native.Nat.{min};
-ghost use lib.ListN.{length};
 ghost use Rattle.rules.specs.Refusals.{refusal};
 ghost use Rattle.rules.specs.Text.{checkText};
 ghost use Rattle.rules.specs.RunText.{ranText};
-ghost use Rattle.text_writing.specs.Lay.{overlaid};
+ghost use Rattle.text_writing.specs.Lay.{Laid};
 ghost use Rattle.rules.specs.Entries.{codeOf};
 ghost use Rattle.probe.specs.Numbers.{markOf, slotAt};
 use check_text::check_text;
@@ -17,6 +16,14 @@ use table_facts::listening_in;
 use table_facts::longest_hops;
 use table_facts::present_in;
 use table_facts::slots_of;
+
+const VERTICES: u64 = 64;
+
+const PAIRS: u64 = 4096;
+
+const SLOTS: u64 = 16;
+
+const NO_RECORD: u64 = 65535;
 
 // 0 where the table is accepted, otherwise the refusal's number plus 256 times its place.
 #[no_mangle]
@@ -43,7 +50,7 @@ pub extern "C" fn probe_longest(table: &[u8]) -> u64
 pub extern "C" fn probe_present(table: &[u8], v: u64) -> u64
     ensures { λ r. ⌜ r ≡ markOf (present (now (table .entry))) 64 v ⌝ }
 {
-    if 64 <= v {
+    if VERTICES <= v {
         return 0;
     }
     let marks = present_in(table);
@@ -55,7 +62,7 @@ pub extern "C" fn probe_present(table: &[u8], v: u64) -> u64
 pub extern "C" fn probe_listens(table: &[u8], pair: u64) -> u64
     ensures { λ r. ⌜ r ≡ markOf (listensAt (pathsOf (now (table .entry)))) 4096 pair ⌝ }
 {
-    if 4096 <= pair {
+    if PAIRS <= pair {
         return 0;
     }
     let marks = listening_in(table);
@@ -74,11 +81,11 @@ fn wide(number: u16) -> u64
 pub extern "C" fn probe_slot(table: &[u8], v: u64, k: u64) -> u64
     ensures { λ r. ⌜ r ≡ slotAt (now (table .entry)) v k ⌝ }
 {
-    if 64 <= v {
-        return 65535;
+    if VERTICES <= v {
+        return NO_RECORD;
     }
-    if 16 <= k {
-        return 65535;
+    if SLOTS <= k {
+        return NO_RECORD;
     }
     let slots = slots_of(table);
     let row = slots[v as usize];
@@ -88,8 +95,7 @@ pub extern "C" fn probe_slot(table: &[u8], v: u64, k: u64) -> u64
 // The check program's text, laid over the front of the lent text as far as it fits, and how many bytes that is.
 #[no_mangle]
 pub extern "C" fn probe_text(table: &[u8], text: &mut [u8]) -> u64
-    ensures text { λ r. ⌜ now (text .exit) ≡ overlaid (checkText (now (table .entry))) (now (text .entry)) ⌝ }
-    ensures count { λ r. ⌜ r ≡ min (length (checkText (now (table .entry)))) (length (now (text .entry))) ⌝ }
+    ensures { λ r. ⌜ Laid 0 (checkText (now (table .entry))) (now (text .entry)) (now (text .exit)) r ⌝ }
 {
     check_text(table, text) as u64
 }
@@ -97,8 +103,7 @@ pub extern "C" fn probe_text(table: &[u8], text: &mut [u8]) -> u64
 // The run program's text, laid over the front of the lent text as far as it fits, and how many bytes that is.
 #[no_mangle]
 pub extern "C" fn probe_run_text(table: &[u8], schedule: &[u8], text: &mut [u8]) -> u64
-    ensures text { λ r. ⌜ now (text .exit) ≡ overlaid (ranText (now (table .entry)) (now (schedule .entry))) (now (text .entry)) ⌝ }
-    ensures count { λ r. ⌜ r ≡ min (length (ranText (now (table .entry)) (now (schedule .entry)))) (length (now (text .entry))) ⌝ }
+    ensures { λ r. ⌜ Laid 0 (ranText (now (table .entry)) (now (schedule .entry))) (now (text .entry)) (now (text .exit)) r ⌝ }
 {
     run_text(table, schedule, text) as u64
 }

@@ -1,2 +1,4 @@
--- The published examples.
+-- What a run from a heard state leaves.
+pub mod RanFrom
+-- The laws.
 pub mod StateLaws

@@ -1,16 +1,15 @@
 // A row's part of a schedule, and its printed text: its title with the activated pairs, and the run that it is.
 ghost use mathlib.Core.Path.{_≡_};
 ghost use mathlib.Core.List.{_++_};
-ghost use lib.IntN.{pos};
-ghost use lib.ListN.{take, drop, replicate};
-ghost use Rattle.rules.specs.Answers.{heardAfterRun};
+ghost use lib.ListN.{take, drop};
 ghost use Rattle.rules.specs.Text.{codes, spaced};
-ghost use Rattle.rules.specs.RunText.{runText};
 ghost use Rattle.text_writing.specs.Lay.{Laid};
+ghost use Rattle.published.specs.RanFrom.{RanFrom};
 use machine::choices;
 use machine::run;
 use run_lines::print_run;
 use slices::at_most;
+use table_facts::VERTICES;
 use text_writing::put;
 use text_writing::put_spaced;
 
@@ -28,7 +27,11 @@ pub fn part(bytes: &[u8], from: usize, count: usize) -> &[u8]
 
 // Lays a title and the numbers of the pairs over the front of the lent text, and answers how many bytes that is.
 pub fn title_text(title: &[u8], pairs: &[u8], text: &mut [u8]) -> usize
-    ensures { λ r. ⌜ Laid 0 (now (title .entry) ++ spaced (now (pairs .entry)) ++ codes "\n") (now (text .entry)) (now (text .exit)) r ⌝ }
+    ensures { λ r.
+        ⌜
+        Laid 0 (now (title .entry) ++ spaced (now (pairs .entry)) ++ codes "\n")
+        (now (text .entry)) (now (text .exit)) r
+        ⌝ }
 {
     let said = put(text, 0, title);
     let listed = put_spaced(text, said, pairs);
@@ -38,10 +41,13 @@ pub fn title_text(title: &[u8], pairs: &[u8], text: &mut [u8]) -> usize
 // Runs the pairs from the heard state, lays the text of the run over the front of the lent text, and answers how many
 // bytes that is.
 pub fn run_from(table: &[u8], heard: &mut [u8], pairs: &[u8], text: &mut [u8]) -> usize
-    ensures text { λ r. ⌜ Laid 0 (runText (now (table .entry)) (now (heard .entry)) (now (pairs .entry)) (replicate 64 (pos 0))) (now (text .entry)) (now (text .exit)) r ⌝ }
-    ensures heard { λ r. ⌜ now (heard .exit) ≡ heardAfterRun (now (table .entry)) (now (heard .entry)) (now (pairs .entry)) (replicate 64 (pos 0)) ⌝ }
+    ensures { λ r.
+        ⌜
+        RanFrom (now (table .entry)) (now (heard .entry)) (now (pairs .entry)) (now (text .entry))
+        (now (heard .exit)) (now (text .exit)) r
+        ⌝ }
 {
-    let mut sums = [0; 64];
+    let mut sums = [0; VERTICES];
     let answer = run(table, heard, pairs, &mut sums);
     let chosen = choices(table, heard);
     print_run(answer, table, &chosen, &sums, text)

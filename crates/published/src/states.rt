@@ -4,12 +4,14 @@ ghost use Prim.Native.Nat.{_<_};
 ghost use Rattle.theorems.specs.Published.{rowThree, changesAt, someStepChanges};
 use machine::step;
 use slices::same_parts;
+use table_facts::PAIRS;
+use table_facts::VERTICES;
 
 // Row 3 of Table 4: 1, 3 and 4 have heard (0), 2 has heard (3 0) and (4 0), and 4 has heard (2 3 0).
-pub fn row_three() -> [u8; 4096]
+pub fn row_three() -> [u8; PAIRS]
     ensures { λ r. ⌜ r ≡ rowThree ⌝ }
 {
-    let mut heard = [0; 4096];
+    let mut heard = [0; PAIRS];
     heard[64] = 1;
     heard[192] = 1;
     heard[256] = 1;
@@ -20,21 +22,26 @@ pub fn row_three() -> [u8; 4096]
 }
 
 // Whether a step at the pair with that offset changes the state.
-fn changes_at(table: &[u8], heard: [u8; 4096], k: usize) -> bool
+fn changes_at(table: &[u8], heard: [u8; PAIRS], k: usize) -> bool
     requires { ⌜ k < 4096 ⌝ }
     ensures { λ r. ⌜ r ≡ changesAt (now (table .entry)) heard k ⌝ }
 {
     let mut after = heard;
-    step(table, &mut after, (k / 64) as u8, (k % 64) as u8);
+    step(
+        table,
+        &mut after,
+        (k / VERTICES) as u8,
+        (k % VERTICES) as u8,
+    );
     !same_parts(&after, &heard)
 }
 
 // Whether a step at some pair of vertices changes the state: each is really made.
-pub fn some_step_changes(table: &[u8], heard: [u8; 4096]) -> bool
+pub fn some_step_changes(table: &[u8], heard: [u8; PAIRS]) -> bool
     ensures { λ r. ⌜ r ≡ someStepChanges (now (table .entry)) heard ⌝ }
 {
     let mut k = 0;
-    while k < 4096 {
+    while k < PAIRS {
         if changes_at(table, heard, k) {
             return true;
         }

@@ -18,6 +18,13 @@ use published::tables::bad_gadget;
 use published::tables::bleedin_edge;
 use published::tables::di_safe_gree;
 use published::tables::disagree;
+use table_facts::PAIRS;
+
+// So many bytes hold every text of a check.
+const CHECK_BYTES: usize = 16384;
+
+// So many hold every text of a run.
+const RUN_BYTES: usize = 8192;
 
 fn say(words: &[u8]) {
     io::write_all(STDOUT_FILENO, words);
@@ -25,7 +32,7 @@ fn say(words: &[u8]) {
 
 // The check of a table.
 fn show_check(table: &[u8]) {
-    let mut text = [0; 16384];
+    let mut text = [0; CHECK_BYTES];
     let length = check_text(table, &mut text);
     say(&text[..length]);
 }
@@ -34,7 +41,7 @@ fn show_check(table: &[u8]) {
 // from the heard state, one by one.
 fn show_row(title: &[u8], table: &[u8], heard: &mut [u8], rows: &[u8], from: usize, count: usize) {
     let pairs = part(rows, from, count);
-    let mut text = [0; 8192];
+    let mut text = [0; RUN_BYTES];
     let titled = title_text(title, pairs, &mut text);
     say(&text[..titled]);
     let length = run_from(table, heard, pairs, &mut text);
@@ -42,7 +49,7 @@ fn show_row(title: &[u8], table: &[u8], heard: &mut [u8], rows: &[u8], from: usi
 }
 
 // Whether the state rests.
-fn show_rest(table: &[u8], heard: [u8; 4096]) {
+fn show_rest(table: &[u8], heard: [u8; PAIRS]) {
     if some_step_changes(table, heard) {
         say(b"a step changes this state\n");
         return;
@@ -52,7 +59,7 @@ fn show_rest(table: &[u8], heard: [u8; 4096]) {
 
 // Row 2 of Table 2 needs its two pairs at one moment; one by one they end in a stable state of Table 3.
 fn show_table_2(title: &[u8], table: &[u8], rows: &[u8]) {
-    let mut heard = [0; 4096];
+    let mut heard = [0; PAIRS];
     show_row(b"from zeros, row 1, pairs", table, &mut heard, rows, 0, 4);
     show_row(title, table, &mut heard, rows, 4, 4);
     show_rest(table, heard);
@@ -67,7 +74,7 @@ fn show_disagree() {
 }
 
 fn show_rounds(table: &[u8], rows: &[u8]) {
-    let mut heard = [0; 4096];
+    let mut heard = [0; PAIRS];
     show_row(b"round 1, pairs", table, &mut heard, rows, 0, 12);
     show_row(b"round 2, pairs", table, &mut heard, rows, 12, 12);
     show_row(b"round 3, pairs", table, &mut heard, rows, 24, 12);
@@ -84,7 +91,7 @@ fn show_bad_gadget() {
 // Row 3 needs its two pairs at one moment: neither order of them one by one gives its state.
 fn show_table_4(table: &[u8], rows: &[u8], turned: &[u8]) {
     say(b"Table 4 from zeros, one by one\n");
-    let mut heard = [0; 4096];
+    let mut heard = [0; PAIRS];
     show_row(b"row 1, pairs", table, &mut heard, rows, 0, 6);
     show_row(b"row 2, pairs", table, &mut heard, rows, 6, 2);
     let mut other = heard;
@@ -118,7 +125,7 @@ fn show_leftover_end(table: &[u8], heard: &mut [u8], rows: &[u8]) {
 
 fn show_table_5(table: &[u8], round: &[u8]) {
     say(b"Table 5, by a round from zeros\n");
-    let mut heard = [0; 4096];
+    let mut heard = [0; PAIRS];
     show_row(b"round, pairs", table, &mut heard, round, 0, 20);
     show_rest(table, heard);
 }
@@ -136,7 +143,7 @@ fn show_bleedin_edge() {
 }
 
 fn show_section_4(table: &[u8], rows: &[u8]) {
-    let mut heard = [0; 4096];
+    let mut heard = [0; PAIRS];
     show_row(b"direct paths, pairs", table, &mut heard, rows, 0, 8);
     show_row(b"then 2 1 0, pairs", table, &mut heard, rows, 8, 4);
     show_row(b"then 2 3 0, pairs", table, &mut heard, rows, 12, 4);

@@ -14,7 +14,11 @@ use Rattle.rules.specs.Table.{records, recordAt, hopsOf, pathOf, hopsAt}
 use Rattle.laws.specs.TableLaws.{samePath, record-length}
 use Rattle.reader.specs.Front.{front}
 
-pub front-part : (t : List ℕ) (i n at e : ℕ) → n ≤ 15 → at ≡ i * 16 + 1 → e ≡ at + n → take (e - at) (drop at t) ≡ front t i n
+pub front-part : (t : List ℕ) (i n at e : ℕ)
+    → n ≤ 15
+    → at ≡ i * 16 + 1
+    → e ≡ at + n
+    → take (e - at) (drop at t) ≡ front t i n
 unfolding front recordAt
 front-part t i n at e h p q =
     let k : e - at ≡ n = omega arith in
@@ -31,7 +35,7 @@ alone-part t i e q =
     let m : i * 16 ≡ 16 * i = omega arith in
     rw (k, m)
 
-module _ (t : List ℕ) (i : ℕ) (r : List ℕ) (e : r ≡ recordAt t i) where
+module _ (t : List ℕ) (i : ℕ) {r : List ℕ} (e : r ≡ recordAt t i) where
   pub alone-record : recordAt r 0 ≡ recordAt t i
   unfolding recordAt
   alone-record = rw e (take-take 16 16 (drop (16 * i) t) (omega arith))
@@ -67,7 +71,7 @@ front-tells r q n a b e h =
     (omega (arith, length-drop 2 r)) (omega (arith, length-drop 2 q)) h)
 
 -- two fronts that are compared tell whether the paths are the same
-pub front-same : (t : List ℕ) (i j n : ℕ) (b : Bool) (p q : List ℕ)
+pub front-same : (t : List ℕ) {i j n : ℕ} {b : Bool} {p q : List ℕ}
     → i < records t
     → j < i
     → hopsAt t i ≤ 12
@@ -77,6 +81,6 @@ pub front-same : (t : List ℕ) (i j n : ℕ) (b : Bool) (p q : List ℕ)
     → b ≡ same p q
     → b ≡ samePath t i j
 unfolding front
-front-same t i j n b p q h l m e f g look =
+front-same t {i} {j} {n} {b} {p} {q} h l m e f g look =
     look ∙ rw (f, g)
     (front-tells (recordAt t j) (recordAt t i) n (record-length t j (omega arith)) (record-length t i h) e m)

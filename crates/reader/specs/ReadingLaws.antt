@@ -1,23 +1,18 @@
--- One result: any two answers that the contract allows for one table are equal, and an answer tells the refusal.
-use mathlib.Core.Path.{_≡_, refl, sym, _∙_}
-use mathlib.Core.List.{List}
+-- What the reader's answer tells: the refusal.
+use mathlib.Core.Path.{_≡_, refl, sym}
 use mathlib.Core.Option.{Option, none, some}
 use Prim.Native.Nat.{ℕ}
-use native.Mathlib.Omega.{arith}
-use Rattle.rules.specs.Refusals.{Refusal, refusal}
-use Rattle.reader.specs.declared.Reading.{Reading}
+use Rattle.lists.specs.Tests.{impossible}
+use Rattle.rules.specs.Refusals.{Refusal}
 use Rattle.reader.specs.declared.Reading.the-variants.{Accepted, Refused}
 use Rattle.reader.specs.Reading.{readingOf}
-
-pub one-reading : (t : List ℕ) (a b : Reading) → a ≡ readingOf (refusal t) → b ≡ readingOf (refusal t) → a ≡ b
-one-reading t a b e f = e ∙ sym f
 
 -- different refusals get different answers
 pub reading-tells : (a b : Option Refusal) → readingOf a ≡ readingOf b → a ≡ b
 unfolding readingOf
 reading-tells none none e = refl
-reading-tells none (some r) e = absurd (let z : _≡_ {A = ℕ} 0 1 = cc in omega arith)
-reading-tells (some r) none e = absurd (let z : _≡_ {A = ℕ} 0 1 = cc in omega arith)
+reading-tells none (some r) e = impossible cc
+reading-tells (some r) none e = impossible cc
 reading-tells (some r) (some s) e =
     let n : r .number ≡ s .number = cc in
     let p : r .place ≡ s .place = cc in
@@ -28,6 +23,8 @@ pub reading-accepted : (o : Option Refusal) → Accepted ≡ readingOf o → o �
 unfolding readingOf
 reading-accepted o e = sym (reading-tells none o e)
 
-pub reading-refused : (n k : ℕ) (o : Option Refusal) → Refused n k ≡ readingOf o → o ≡ some (record { number = n; place = k })
+pub reading-refused : (n k : ℕ) (o : Option Refusal)
+    → Refused n k ≡ readingOf o
+    → o ≡ some (record { number = n; place = k })
 unfolding readingOf
 reading-refused n k o e = sym (reading-tells (some (record { number = n; place = k })) o e)

@@ -5,6 +5,10 @@ ghost use mathlib.Core.Path.{_≡_};
 ghost use Rattle.rules.specs.Refusals.{refusal};
 ghost use Rattle.reader.specs.Reading.{readingOf};
 use crate::faults::fault_of;
+use record_fields::RECORD_BYTES;
+
+// 1,008 records.
+const MOST_BYTES: usize = 16128;
 
 // A table is accepted, or refused with number and place.
 pub enum Reading {
@@ -13,20 +17,20 @@ pub enum Reading {
 }
 
 // Reads a table of any length: the rules' first refusal, or accepted.
-pub fn read(t: &[u8]) -> Reading
-    ensures { λ r. ⌜ r ≡ readingOf (refusal (now (t .entry))) ⌝ }
+pub fn read(table: &[u8]) -> Reading
+    ensures { λ r. ⌜ r ≡ readingOf (refusal (now (table .entry))) ⌝ }
 {
-    let length = t.len();
-    if 16128 < length {
+    let length = table.len();
+    if MOST_BYTES < length {
         return Reading::Refused(2, 0);
     }
-    if length % 16 != 0 {
+    if length % RECORD_BYTES != 0 {
         return Reading::Refused(3, 0);
     }
-    let count = length / 16;
+    let count = length / RECORD_BYTES;
     let mut i = 0;
     while i < count {
-        let number = fault_of(t, i);
+        let number = fault_of(table, i);
         if number != 0 {
             return Reading::Refused(number, i);
         }

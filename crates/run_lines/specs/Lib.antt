@@ -2,4 +2,4 @@
 pub mod Shown
 -- The laws of that, and of the text of each verdict.
 pub mod ShownLaws
-pub mod VerdictLaws
+pub mod RunVerdictTextLaws

@@ -33,7 +33,8 @@ module _ (slots : List ℕ) where
 
 -- one more vertex behind those before it
 
-module _ (t choices : List ℕ) (sums : List ℤ) (named : List Bool) (v : ℕ) (marked : named ≡ tabulate (present t) 64) (h : v < 63) where
+module _ (t choices : List ℕ) (sums : List ℤ) {named : List Bool} {v : ℕ}
+    (marked : named ≡ tabulate (present t) 64) (h : v < 63) where
   named-at : (d : Bool) → getD named (v + 1) d ≡ present t (v + 1)
   named-at d = rw marked (tabulate-at (present t) 64 (v + 1) d (omega arith))
 
@@ -42,7 +43,7 @@ module _ (t choices : List ℕ) (sums : List ℤ) (named : List Bool) (v : ℕ) 
       → shownLines t choices sums v ≡ shownLines t choices sums (v + 1)
   shown-absent d e = vertices-absent (present t) (shownLine t choices sums) v (sym (named-at d) ∙ e)
 
-  pub shown-present : (d : Bool) (slots : List (List ℕ)) (row : List ℕ) (rank i : ℕ) (sum : ℤ) (path : Path)
+  pub shown-present : (d : Bool) {slots : List (List ℕ)} {row : List ℕ} {rank i : ℕ} {sum : ℤ} {path : Path}
       → getD named (v + 1) d ≡ true
       → slots ≡ slotsOf t (min (records t) 1008)
       → row ≡ getD slots (v + 1) []
@@ -53,6 +54,6 @@ module _ (t choices : List ℕ) (sums : List ℤ) (named : List Bool) (v : ℕ) 
       → shownLines t choices sums v ++ vertexLine (v + 1) sum rank path
       ≡ shownLines t choices sums (v + 1)
   unfolding shownLine
-  shown-present d slots row rank i sum path e s r b q m p =
+  shown-present d {slots} {row} {rank} {i} {sum} {path} e s r b q m p =
       vertices-present (present t) (shownLine t choices sums) v (vertexLine (v + 1) sum rank path) (sym (named-at d) ∙ e)
       (rw (p, q, m, r, s, b))

@@ -1,15 +1,18 @@
-// The printed text of a run's answer, for any answer, choices and sums: a line of numbers, then one for each present vertex.
+// The printed text of a run's answer, for any answer, choices and sums: a line of numbers, then one for each present
+// vertex.
 ghost use mathlib.Core.Path.{_≡_};
 ghost use lib.ListN.{getD};
 ghost use lib.IntN.{pos};
-ghost use Rattle.rules.specs.RunText.{runLine, vertexLine, runTextOf};
-ghost use Rattle.answer.specs.Moves.{runRefusalIn, runNumbersIn};
+ghost use Rattle.rules.specs.RunText.{runLine, vertexLine};
+ghost use Rattle.answer.specs.Moves.{runNumbersIn};
 ghost use Rattle.text_writing.specs.Lay.{Laid};
-ghost use Rattle.run_lines.specs.Shown.{rankedRecord, shownLines};
+ghost use Rattle.run_lines.specs.Shown.{rankedRecord, shownLines, runAnswerText};
 use answer::RunAnswer;
 use answer::RunVerdict;
 use record_fields::path_at;
 use slices::byte_at;
+use table_facts::NO_RECORD;
+use table_facts::SLOTS;
 use table_facts::present_in;
 use table_facts::slots_of;
 use text_writing::put;
@@ -18,6 +21,10 @@ use text_writing::put_number;
 use text_writing::put_refused;
 use text_writing::put_route;
 use text_writing::put_signed;
+
+const LAST_VERTEX: usize = 63;
+
+const MOST_RANK: u8 = 16;
 
 // `run steps 5 ups 4 downs 1 last 5 rounds 1`.
 fn put_numbers(text: &mut [u8], answer: RunAnswer) -> usize
@@ -42,14 +49,14 @@ fn sum_at(sums: &[i32], v: usize) -> i32
 }
 
 // The record of a rank among a vertex's slots, 65,535 where there is none.
-fn ranked_record(slots: [u16; 16], rank: u8) -> u16
+fn ranked_record(slots: [u16; SLOTS], rank: u8) -> u16
     ensures { λ r. ⌜ r ≡ rankedRecord slots rank ⌝ }
 {
     if rank == 0 {
-        return 65535;
+        return NO_RECORD;
     }
-    if 16 < rank {
-        return 65535;
+    if MOST_RANK < rank {
+        return NO_RECORD;
     }
     slots[rank as usize - 1]
 }
@@ -67,13 +74,17 @@ fn put_vertex(text: &mut [u8], at: usize, v: usize, sum: i32, rank: u8, path: &[
 
 // The lines of the vertices 1 to 63 that are present.
 fn put_vertices(text: &mut [u8], at: usize, table: &[u8], choices: &[u8], sums: &[i32]) -> usize
-    ensures { λ r. ⌜ Laid at (shownLines (now (table .entry)) (now (choices .entry)) (now (sums .entry)) 63) (now (text .entry)) (now (text .exit)) r ⌝ }
+    ensures { λ r.
+        ⌜
+        Laid at (shownLines (now (table .entry)) (now (choices .entry)) (now (sums .entry)) 63)
+        (now (text .entry)) (now (text .exit)) r
+        ⌝ }
 {
     let named = present_in(table);
     let slots = slots_of(table);
     let mut next = at;
     let mut v = 0;
-    while v < 63 {
+    while v < LAST_VERTEX {
         v += 1;
         if !named[v] {
             continue;
@@ -100,7 +111,11 @@ pub fn print_run(
     sums: &[i32],
     text: &mut [u8],
 ) -> usize
-    ensures { λ r. ⌜ Laid 0 (runTextOf (runRefusalIn (answer .verdict)) (runNumbersIn answer) (shownLines (now (table .entry)) (now (choices .entry)) (now (sums .entry)) 63)) (now (text .entry)) (now (text .exit)) r ⌝ }
+    ensures { λ r.
+        ⌜
+        Laid 0 (runAnswerText answer (now (table .entry)) (now (choices .entry)) (now (sums .entry)))
+        (now (text .entry)) (now (text .exit)) r
+        ⌝ }
 {
     let verdict = answer.verdict;
     let RunVerdict::Refused(number, place) = verdict else {

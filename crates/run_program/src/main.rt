@@ -3,6 +3,15 @@ use libc::STDERR_FILENO;
 use libc::STDOUT_FILENO;
 use run_text::run_text;
 
+// One byte more than the longest table.
+const TABLE_BYTES: usize = 16129;
+
+// One byte more than the longest schedule.
+const SCHEDULE_BYTES: usize = 32769;
+
+// So many bytes hold every text of a run.
+const TEXT_BYTES: usize = 8192;
+
 // Opens the file that an argument names, or tells why it cannot and answers -1.
 fn open_named(argument: usize) -> i32 {
     let mut name = io::buffer();
@@ -33,21 +42,21 @@ fn is_whole(fd: i32, has_room: bool, what: &[u8]) -> bool {
 
 // The run, printed.
 fn answer(table: &[u8], schedule: &[u8]) {
-    let mut text = [0; 8192];
+    let mut text = [0; TEXT_BYTES];
     let length = run_text(table, schedule, &mut text);
     io::write_all(STDOUT_FILENO, &text[..length]);
 }
 
 // Each buffer has room for one byte more than the longest input, so that a longer one is seen.
 fn read_and_answer(first: i32, second: i32) {
-    let mut table = [0; 16129];
-    let mut schedule = [0; 32769];
+    let mut table = [0; TABLE_BYTES];
+    let mut schedule = [0; SCHEDULE_BYTES];
     let size = io::read_full(first, &mut table);
-    if !is_whole(first, size < 16129, b"table") {
+    if !is_whole(first, size < TABLE_BYTES, b"table") {
         return;
     }
     let length = io::read_full(second, &mut schedule);
-    if !is_whole(second, length < 32769, b"schedule") {
+    if !is_whole(second, length < SCHEDULE_BYTES, b"schedule") {
         return;
     }
     answer(&table[..size], &schedule[..length]);

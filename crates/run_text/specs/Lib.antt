@@ -1,2 +1,2 @@
 -- The run as text.
-pub mod RanLaws
+pub mod PrintedRunLaws

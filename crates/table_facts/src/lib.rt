@@ -1,4 +1,5 @@
-// What the check and the machine need of a table, for any bytes: the longest hops, who is present, who listens, who speaks of how many paths, the slots.
+// What the check and the machine need of a table, for any bytes: the longest hops, who is present, who listens, who
+// speaks of how many paths, the slots.
 ghost use mathlib.Core.Path.{_≡_};
 ghost use Prim.Native.Nat.{min};
 ghost use lib.ListN.{length};
@@ -6,6 +7,7 @@ ghost use Rattle.lists.specs.Fill.{tabulate};
 ghost use Rattle.rules.specs.Table.{records, longest, present, pathsOf, slotsOf, listensAt};
 ghost use Rattle.rules.specs.Machine.{speaks};
 ghost use Rattle.laws.specs.PassLaws.{pairMarked};
+use record_fields::RECORD_BYTES;
 use record_fields::hops_at;
 use record_fields::next_at;
 use record_fields::owner_at;
@@ -15,30 +17,43 @@ use slices::larger;
 use slices::mark;
 use slices::mark_all;
 
+pub const VERTICES: usize = 64;
+
+// Pairs of a listener and a speaker.
+pub const PAIRS: usize = 4096;
+
+const MOST_RECORDS: usize = 1008;
+
+// How many records of a vertex have a slot.
+pub const SLOTS: usize = 16;
+
+// What an empty slot holds.
+pub const NO_RECORD: u16 = 65535;
+
 // The hops of the longest path, 0 where there is no record.
-pub fn longest_hops(t: &[u8]) -> u8
-    ensures { λ r. ⌜ r ≡ longest (now (t .entry)) ⌝ }
+pub fn longest_hops(table: &[u8]) -> u8
+    ensures { λ r. ⌜ r ≡ longest (now (table .entry)) ⌝ }
 {
-    let count = t.len() / 16;
+    let count = table.len() / RECORD_BYTES;
     let mut most = 0;
     let mut i = 0;
     while i < count {
-        most = larger(most, hops_at(t, i));
+        most = larger(most, hops_at(table, i));
         i += 1;
     }
     most
 }
 
 // Which vertices are present.
-pub fn present_in(t: &[u8]) -> [bool; 64]
-    ensures { λ r. ⌜ r ≡ tabulate (present (now (t .entry))) 64 ⌝ }
+pub fn present_in(table: &[u8]) -> [bool; VERTICES]
+    ensures { λ r. ⌜ r ≡ tabulate (present (now (table .entry))) 64 ⌝ }
 {
-    let count = t.len() / 16;
-    let mut named = [false; 64];
+    let count = table.len() / RECORD_BYTES;
+    let mut named = [false; VERTICES];
     named[0] = true;
     let mut i = 0;
     while i < count {
-        mark_all(&mut named, path_at(t, i));
+        mark_all(&mut named, path_at(table, i));
         i += 1;
     }
     named
@@ -51,35 +66,35 @@ fn mark_pair(marks: &mut [bool], v: u8, u: u8)
     if 64 <= u {
         return;
     }
-    let at = v as usize * 64 + u as usize;
+    let at = v as usize * VERTICES + u as usize;
     mark(marks, at);
 }
 
 // Which pairs listen: v to u at 64 times v plus u.
-pub fn listening_in(t: &[u8]) -> [bool; 4096]
-    ensures { λ r. ⌜ r ≡ tabulate (listensAt (pathsOf (now (t .entry)))) 4096 ⌝ }
+pub fn listening_in(table: &[u8]) -> [bool; PAIRS]
+    ensures { λ r. ⌜ r ≡ tabulate (listensAt (pathsOf (now (table .entry)))) 4096 ⌝ }
 {
-    let count = t.len() / 16;
-    let mut marks = [false; 4096];
+    let count = table.len() / RECORD_BYTES;
+    let mut marks = [false; PAIRS];
     let mut i = 0;
     while i < count {
-        mark_pair(&mut marks, owner_at(t, i), next_at(t, i));
+        mark_pair(&mut marks, owner_at(table, i), next_at(table, i));
         i += 1;
     }
     marks
 }
 
 // How many paths each vertex can speak of: one for the destination, for every other its records.
-pub fn spoken_in(t: &[u8]) -> [usize; 64]
-    ensures { λ r. ⌜ r ≡ tabulate (λ u. length (speaks (pathsOf (now (t .entry))) u)) 64 ⌝ }
+pub fn spoken_in(table: &[u8]) -> [usize; VERTICES]
+    ensures { λ r. ⌜ r ≡ tabulate (λ u. length (speaks (pathsOf (now (table .entry))) u)) 64 ⌝ }
 {
-    let count = t.len() / 16;
-    let mut spoken = [0usize; 64];
+    let count = table.len() / RECORD_BYTES;
+    let mut spoken = [0usize; VERTICES];
     let mut i = 0;
     while i < count {
-        let v = owner_at(t, i) as usize;
+        let v = owner_at(table, i) as usize;
         i += 1;
-        if 64 <= v {
+        if VERTICES <= v {
             continue;
         }
         spoken[v] = spoken[v] + 1;
@@ -89,22 +104,22 @@ pub fn spoken_in(t: &[u8]) -> [usize; 64]
 }
 
 // The best-first slots of the first 1,008 records: 16 record numbers for each vertex, built in one pass.
-pub fn slots_of(t: &[u8]) -> [[u16; 16]; 64]
-    ensures { λ r. ⌜ r ≡ slotsOf (now (t .entry)) (min (records (now (t .entry))) 1008) ⌝ }
+pub fn slots_of(table: &[u8]) -> [[u16; SLOTS]; VERTICES]
+    ensures { λ r. ⌜ r ≡ slotsOf (now (table .entry)) (min (records (now (table .entry))) 1008) ⌝ }
 {
-    let count = at_most(t.len() / 16, 1008);
-    let mut slots = [[65535; 16]; 64];
-    let mut used = [0usize; 64];
+    let count = at_most(table.len() / RECORD_BYTES, MOST_RECORDS);
+    let mut slots = [[NO_RECORD; SLOTS]; VERTICES];
+    let mut used = [0usize; VERTICES];
     let mut i = 0;
     while i < count {
         let here = i;
         i += 1;
-        let v = owner_at(t, here) as usize;
-        if 64 <= v {
+        let v = owner_at(table, here) as usize;
+        if VERTICES <= v {
             continue;
         }
         let k = used[v];
-        if 16 <= k {
+        if SLOTS <= k {
             continue;
         }
         slots[v][k] = here as u16;

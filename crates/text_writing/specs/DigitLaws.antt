@@ -27,7 +27,9 @@ writing-start n before =
 
 -- a digit stored before what is written
 stored : (l : List ℕ) (k d : ℕ) → k < length l → drop k (set l k d) ≡ d ∷ drop (suc k) l
-stored l k d h = rw (drop-cons (set l k d) k 0 (rw (length-set l k d) h), getD-set-same l k d 0 h, drop-set-lt (suc k) l k d (omega arith))
+stored l k d h =
+    rw
+    (drop-cons (set l k d) k 0 (rw (length-set l k d) h), getD-set-same l k d 0 h, drop-set-lt (suc k) l k d (omega arith))
 
 module _ {n : ℕ} {before after : List ℕ} {rest : ℕ} where
   pub writing-more : (at : ℕ)
@@ -72,4 +74,5 @@ pub written-part : {n : ℕ} {before after : List ℕ} {from : ℕ}
     → take (size - from) (drop from after) ≡ digitsIn size n
 written-part {n} {before} {after} {from} w size e l =
     let z : size ≡ length after = e ∙ sym l in
-    ap (λ (k : ℕ). take (k - from) (drop from after)) z ∙ part-to-end after from ∙ w .digits ∙ ap (λ (k : ℕ). digitsIn k n) (sym e)
+    ap (λ (k : ℕ). take (k - from) (drop from after)) z ∙ part-to-end after from ∙ w .digits ∙ ap
+    (λ (k : ℕ). digitsIn k n) (sym e)

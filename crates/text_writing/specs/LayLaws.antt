@@ -1,4 +1,5 @@
--- Laws of laying: one piece behind the other, what a loop that lays byte by byte has laid, and that a piece which fits stands there.
+-- Laws of laying: one piece behind the other, what a loop that lays byte by byte has laid, and that a piece which fits
+-- stands there.
 use mathlib.Core.Path.{_≡_, refl, sym, ap, _∙_}
 use mathlib.Core.List.{List, [], _∷_, _++_, append-assoc}
 use Prim.Native.Nat.{ℕ, zero, suc, _+_, _-_, _<_, _≤_, min}
@@ -6,6 +7,7 @@ use native.Mathlib.Omega.{arith}
 use native.Mathlib.Numerals.{add-one}
 use lib.ListN.{length, getD, take, drop, set, length-append, length-take, length-drop, length-set, take-append-drop}
 use lib.Seq.{take-length, take-nil, drop-nil, paste, paste-zero, paste-suc, drop-drop}
+use Rattle.lists.specs.Results.{one-result}
 use Rattle.text_writing.specs.Lay.{overlaid, Laid}
 
 -- the piece byte by byte
@@ -51,10 +53,20 @@ behind-at (suc at) a b (y ∷ s) n e =
     let z : n ≡ suc (at + min (length a) (length s - at)) = omega arith in
     rw z (ap (λ (l : List ℕ). y ∷ l) (behind-at at a b s _ refl))
 
-pub laid-length : {at : ℕ} {piece before after : List ℕ} {next : ℕ} → Laid at piece before after next → length after ≡ length before
+pub laid-length : {at : ℕ} {piece before after : List ℕ} {next : ℕ}
+    → Laid at piece before after next
+    → length after ≡ length before
 laid-length {at} {piece} {before} {after} {next} l =
     ap length (l .stands)
-    ∙ omega (arith, length-append (take at before) (overlaid piece (drop at before)), length-take at before, length-drop at before, overlaid-length piece (drop at before))
+    ∙ omega (
+      arith,
+      length-append (take at before)
+          (overlaid piece (drop at before)),
+      length-take at before,
+      length-drop at before,
+      overlaid-length piece
+          (drop at before),
+    )
 
 -- laying a, then b behind it, is laying a and b
 pub laid-then : {at n m : ℕ} {a b before middle after : List ℕ}
@@ -68,7 +80,10 @@ laid-then {at} {n} {m} {a} {b} {before} {middle} {after} p q =
     }
 
 -- a piece by another name
-pub laid-as : {at next : ℕ} {p q before after : List ℕ} → Laid at p before after next → p ≡ q → Laid at q before after next
+pub laid-as : {at next : ℕ} {p q before after : List ℕ}
+    → Laid at p before after next
+    → p ≡ q
+    → Laid at q before after next
 laid-as {at} {next} {p} {q} {before} {after} l e = rw e at l
 
 -- laying nothing changes nothing
@@ -107,7 +122,9 @@ laying-start at piece before =
     }
 
 module _ {at : ℕ} {piece before after : List ℕ} {next k : ℕ} (l : Laying at piece before after next k) where
-  pub laying-more : next < length after → k < length piece → Laying at piece before (set after next (getD piece k 0)) (next + 1) (k + 1)
+  pub laying-more : next < length after
+      → k < length piece
+      → Laying at piece before (set after next (getD piece k 0)) (next + 1) (k + 1)
   laying-more h i =
       record {
         place = omega (arith, l .place);
@@ -146,11 +163,12 @@ laid-fits {piece} {before} {after} {n} l h =
     front : (piece before : List ℕ) → length piece ≤ length before → take (length piece) (overlaid piece before) ≡ piece
     front [] before h = refl
     front (x ∷ piece) [] h = absurd (omega arith)
-    front (x ∷ piece) (y ∷ before) h = rw (overlaid-cons x y piece before) (ap (λ (l : List ℕ). x ∷ l) (front piece before (omega arith)))
+    front (x ∷ piece) (y ∷ before) h =
+        rw (overlaid-cons x y piece before) (ap (λ (l : List ℕ). x ∷ l) (front piece before (omega arith)))
 
 -- what is laid, and how far, is fixed
 pub laid-one : {at : ℕ} {piece before after after' : List ℕ} {n n' : ℕ}
     → Laid at piece before after n
     → Laid at piece before after' n'
     → (after ≡ after') × (n ≡ n')
-laid-one l m = (l .stands ∙ sym (m .stands), l .reaches ∙ sym (m .reaches))
+laid-one l m = (one-result _ _ _ (l .stands) (m .stands), one-result _ _ _ (l .reaches) (m .reaches))

@@ -4,4 +4,4 @@ pub mod Digits
 -- The laws.
 pub mod LayLaws
 pub mod DigitLaws
-pub mod SignedLaws
+pub mod SignedLetterLaws

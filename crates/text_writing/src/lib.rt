@@ -1,5 +1,5 @@
-// Letters into a lent buffer, laid from a place on, as far as they fit: pieces, decimal numbers, and the words that every printed text
-// shares.
+// Letters into a lent buffer, laid from a place on, as far as they fit: pieces, decimal numbers, and the words that
+// every printed text shares.
 ghost use mathlib.Core.Path.{_≡_};
 ghost use mathlib.Core.List.{_++_};
 ghost use lib.IntN.{natAbs};
@@ -7,6 +7,12 @@ ghost use Rattle.rules.specs.Text.{decimal, spaced, routeWords, placeWords, ref
 ghost use Rattle.rules.specs.RunText.{signed};
 ghost use Rattle.text_writing.specs.Lay.{Laid};
 ghost use Rattle.text_writing.specs.Digits.{Written};
+
+// The letter 0; those of the other digits follow it.
+const ZERO: u8 = 48;
+
+// So many digits hold every number that is printed.
+const DIGITS: usize = 10;
 
 // Lays the piece from a place on, and answers the place behind it.
 pub fn put(text: &mut [u8], at: usize, piece: &[u8]) -> usize
@@ -33,7 +39,7 @@ fn write_digits(digits: &mut [u8], n: usize) -> usize
     let mut at = digits.len();
     while 0 < at {
         at -= 1;
-        digits[at] = 48 + (rest % 10) as u8;
+        digits[at] = ZERO + (rest % 10) as u8;
         rest = rest / 10;
         if rest == 0 {
             return at;
@@ -46,7 +52,7 @@ fn write_digits(digits: &mut [u8], n: usize) -> usize
 pub fn put_number(text: &mut [u8], at: usize, n: usize) -> usize
     ensures { λ r. ⌜ Laid at (decimal n) (now (text .entry)) (now (text .exit)) r ⌝ }
 {
-    let mut digits = [0u8; 10];
+    let mut digits = [0u8; DIGITS];
     let from = write_digits(&mut digits, n);
     put(text, at, &digits[from..])
 }

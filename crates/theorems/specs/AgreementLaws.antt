@@ -1,5 +1,5 @@
--- Assignments in which every path is its owner followed by the next hop's path: the stable ones agree with what is settled, and what is
--- settled, where nobody is stuck, is a stable one.
+-- Assignments in which every path is its owner followed by the next hop's path: the stable ones agree with what is
+-- settled, and what is settled, where nobody is stuck, is a stable one.
 use Prim.Native.Nat.{ℕ, zero, suc, _+_, _-_, _<_, _≤_}
 use mathlib.Core.Path.{_≡_, sym, ap, _∙_}
 use mathlib.Core.Logic.{_≢_, ⊎-elim}
@@ -23,7 +23,11 @@ module _ (paths : ℕ → List Path) (present : ℕ → Bool) (shaped : Shaped p
   pub record Chained : Type 0 where
     pub destination : assigned 0 ≡ 0 ∷ []
     pub permitted : (v : ℕ) → v ≢ 0 → present v ≡ true → assigned v ≢ [] → Permitted present v (assigned v)
-    pub chained : (v : ℕ) → v ≢ 0 → present v ≡ true → assigned v ≢ [] → rest (assigned v) ≡ assigned (nextHop (assigned v))
+    pub chained : (v : ℕ)
+        → v ≢ 0
+        → present v ≡ true
+        → assigned v ≢ []
+        → rest (assigned v) ≡ assigned (nextHop (assigned v))
 
   -- what is settled is assigned
   abbrev pub Agrees : Settled → Type 0
@@ -43,7 +47,11 @@ module _ (paths : ℕ → List Path) (present : ℕ → Bool) (shaped : Shaped p
         (λ q w. settled-compatible present S v (assigned v) q (c .permitted v z e f) w (agrees v q w)))
 
     -- then every path that is assigned is compatible
-    assigned-compatible : (n v : ℕ) → present v ≡ true → length (assigned v) ≤ n → assigned v ≢ [] → compatible S (assigned v) ≡ true
+    assigned-compatible : (n v : ℕ)
+        → present v ≡ true
+        → length (assigned v) ≤ n
+        → assigned v ≢ []
+        → compatible S (assigned v) ≡ true
     unfolding nextHop
     assigned-compatible zero v e h f = by-owner v e f (λ z w. absurd (omega (arith, c .permitted v z e f .long)))
     assigned-compatible (suc n) v e h f =
@@ -57,7 +65,10 @@ module _ (paths : ℕ → List Path) (present : ℕ → Bool) (shaped : Shaped p
         (λ x. omega (arith, r .long, shorter, ap length on, ap length x)))
 
     -- so who enters next takes what is assigned, for the best
-    pub assigned-entering : (v : ℕ) (p : Path) → S v ≡ none → judged S (best paths S v) ≡ some p → bestGiven paths assigned v ≡ p
+    pub assigned-entering : (v : ℕ) (p : Path)
+        → S v ≡ none
+        → judged S (best paths S v) ≡ some p
+        → bestGiven paths assigned v ≡ p
     unfolding extends nextHop
     assigned-entering v p w j =
         entering paths present shaped S v p w j assigned
@@ -136,7 +147,8 @@ module _ (paths : ℕ → List Path) (present : ℕ → Bool) (shaped : Shaped p
             → Stands (paths v) (assigned v) × (compatible (settled paths present (entry v z e .at)) (assigned v) ≡ true)
         taken v z e f =
             let r = entry v z e in
-            first-taken (compatible (settled paths present (r .at))) (paths v) (assigned v) f (sym (entered-best paths present r))
+            first-taken (compatible (settled paths present (r .at))) (paths v) (assigned v) f
+            (sym (entered-best paths present r))
 
         own : (v : ℕ) → v ≢ 0 → present v ≡ true → assigned v ≢ [] → Permitted present v (assigned v)
         own v z e f = stands-permitted paths present shaped v (assigned v) (taken v z e f .0)
@@ -147,6 +159,7 @@ module _ (paths : ℕ → List Path) (present : ℕ → Bool) (shaped : Shaped p
           destination = settled-chained .destination;
           others = λ v z e. let r = entry v z e in
               let S = settled paths present (r .at) in
-              sym (assigned-entering settled-chained S (settled-origin paths present (r .at)) (agrees-earlier (r .at) (r .before)) v (assigned v) (r .new)
+              sym (assigned-entering settled-chained S (settled-origin paths present (r .at))
+              (agrees-earlier (r .at) (r .before)) v (assigned v) (r .new)
               (r .judgement));
         }

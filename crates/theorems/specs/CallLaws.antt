@@ -1,4 +1,5 @@
--- Laws of accepted calls one after the other: they activate their pairs, keep the heard state valid, and answer rounds that are there.
+-- Laws of accepted calls one after the other: they activate their pairs, keep the heard state valid, and answer rounds
+-- that are there.
 use Prim.{tt}
 use Prim.Native.Nat.{ℕ, suc, _+_, _<_, _≤_}
 use mathlib.Core.Path.{_≡_, refl, sym, ap, _∙_}
@@ -30,7 +31,8 @@ range-listening : (paths : ℕ → List Path) (s : List Pair)
     → firstBadPair paths s ≡ none
     → InRange s
 unfolding InRange
-range-listening paths s small e = all s (λ k h. small (getD s k noPair .listener) (getD s k noPair .speaker) (all-listen paths s noPair e k h))
+range-listening paths s small e =
+    all s (λ k h. small (getD s k noPair .listener) (getD s k noPair .speaker) (all-listen paths s noPair e k h))
   where
     all : (s : List Pair) → ((k : ℕ) → k < length s → Vertices (getD s k noPair)) → InRange s
     all [] f = tt
@@ -71,7 +73,8 @@ module _ (t : List ℕ) where
   all-after [] heard a = refl
   all-after (c ∷ cs) heard a =
       all-after cs (heardAfterCall t heard c) (a .1)
-      ∙ ap (λ (h : List ℕ). after (pathsOf t) h (pairsOf cs)) (does t heard c (a .0) .after ∙ run-heard (pathsOf t) heard (pairsOfCall c))
+      ∙ ap (λ (h : List ℕ). after (pathsOf t) h (pairsOf cs))
+      (does t heard c (a .0) .after ∙ run-heard (pathsOf t) heard (pairsOfCall c))
       ∙ sym (fold-append (step (pathsOf t)) heard (pairsOfCall c) (pairsOf cs))
 
   -- the rounds that they answer are rounds of the whole
@@ -81,7 +84,8 @@ module _ (t : List ℕ) where
   unfolding AllAccepted roundsAnswered pairsOf
   all-rounds [] heard a = contains-none (listeningOffsets (pathsOf t)) []
   all-rounds (c ∷ cs) heard a =
-      contains-add (listeningOffsets (pathsOf t)) (roundsOfCall t heard c) (roundsAnswered t (heardAfterCall t heard c) cs) (pairsOfCall c) (pairsOf cs)
+      contains-add (listeningOffsets (pathsOf t)) (roundsOfCall t heard c)
+      (roundsAnswered t (heardAfterCall t heard c) cs) (pairsOfCall c) (pairsOf cs)
       (does t heard c (a .0) .rounds) (all-rounds cs (heardAfterCall t heard c) (a .1))
 
   -- and no more than one run over all their pairs counts
@@ -122,7 +126,8 @@ module _ (t : List ℕ) where
   unfolding heardAfterPairs
   pairs-all calls heard a =
       let s = pairsOf calls in
-      run-heard (pathsOf t) heard (take (length s) s) ∙ ap (after (pathsOf t) heard) (take-length s) ∙ sym (all-after calls heard a)
+      run-heard (pathsOf t) heard (take (length s) s) ∙ ap (after (pathsOf t) heard) (take-length s) ∙ sym
+      (all-after calls heard a)
 
 module _ (t : List ℕ) (accepted : refusal t ≡ none) where
   -- their pairs are pairs of vertices
@@ -138,7 +143,10 @@ module _ (t : List ℕ) (accepted : refusal t ≡ none) where
       (all-range cs (heardAfterCall t heard c) (a .1))
 
   -- the state after them is valid where the first one was
-  pub all-valid : (calls : List Call) (heard : List ℕ) → Valid t heard → AllAccepted t heard calls → Valid t (heardAfter t heard calls)
+  pub all-valid : (calls : List Call) (heard : List ℕ)
+      → Valid t heard
+      → AllAccepted t heard calls
+      → Valid t (heardAfter t heard calls)
   unfolding AllAccepted heardAfter
   all-valid [] heard valid a = valid
   all-valid (c ∷ cs) heard valid a =

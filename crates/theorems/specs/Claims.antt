@@ -1,5 +1,6 @@
--- What the theorems speak of, over the bytes of a table, its rows, heard states and schedules: calls one after the other, what a row
--- reports, what is claimed of a settled router, and heard states in which the machine rests. A router is a vertex of the rules.
+-- What the theorems speak of, over the bytes of a table, its rows, heard states and schedules: calls one after the
+-- other, what a row reports, what is claimed of a settled router, and heard states in which the machine rests. A router
+-- is a vertex of the rules.
 use Prim.{Unit}
 use Prim.Native.Nat.{ℕ, pred, _+_, _*_, _%_, _<_, _≤_}
 use mathlib.Core.Path.{_≡_}
@@ -16,7 +17,8 @@ use Rattle.rules.specs.Run.{pairsIn, listeningOffsets, run}
 use Rattle.rules.specs.Refusals.{Refusal, refusal}
 use Rattle.rules.specs.Answers.{stepRefusal, heardAfterStep, runRefusal, runNumbers, heardAfterRun}
 
--- A call that the collector can make on a heard state: a run over a schedule, with a buffer lent for the sums, or a single step.
+-- A call that the collector can make on a heard state: a run over a schedule, with a buffer lent for the sums, or a
+-- single step.
 pub data Call : Type 0 where
   ofRun : (schedule : List ℕ) (sums : List ℤ) → Call
   ofStep : Pair → Call
@@ -89,16 +91,20 @@ pub record Given (t heard : List ℕ) (v k : ℕ) (calls : List Call) : Type 0 w
   pub state : Valid t heard
   pub each : AllAccepted t heard calls
 
--- p is what the row of v reports, [] where it reports no path: "byte 1 rank, byte 2 hops, bytes 3 to 15 the vertices, then 255".
+-- p is what the row of v reports, [] where it reports no path: "byte 1 rank, byte 2 hops, bytes 3 to 15 the vertices,
+-- then 255".
 pub record AsReported (t : List ℕ) (v : ℕ) (p : Path) : Type 0 where
   pub rank : rankIn (pathsOf t) v p ≡ getD (rowOf t v) 1 0
   pub hops : pred (length p) ≡ getD (rowOf t v) 2 0
   pub path : p ≡ pathShown (rowOf t v)
 
--- The choice of v is as reported, and stays so: now, after all accepted calls that may follow, and after each single step of them.
+-- The choice of v is as reported, and stays so: now, after all accepted calls that may follow, and after each single
+-- step of them.
 pub record Stays (t heard : List ℕ) (v : ℕ) : Type 0 where
   pub now : AsReported t v (choice (pathsOf t) heard v)
-  pub afterwards : (later : List Call) → AllAccepted t heard later → AsReported t v (choice (pathsOf t) (heardAfter t heard later) v)
+  pub afterwards : (later : List Call)
+      → AllAccepted t heard later
+      → AsReported t v (choice (pathsOf t) (heardAfter t heard later) v)
   pub between : (later : List Call)
       → AllAccepted t heard later
       → (n : ℕ)

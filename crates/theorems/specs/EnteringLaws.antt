@@ -1,5 +1,5 @@
--- A vertex that enters in the next stage takes its best compatible path under everything given that agrees with what is settled: the one
--- law behind the machine's choices and the stable assignments.
+-- A vertex that enters in the next stage takes its best compatible path under everything given that agrees with what is
+-- settled: the one law behind the machine's choices and the stable assignments.
 use Prim.Native.Nat.{ℕ, suc, _<_, _≤_}
 use mathlib.Core.Path.{_≡_, refl, sym, ap, _∙_}
 use mathlib.Core.Logic.{_≢_, ⊎-elim}
@@ -39,7 +39,9 @@ rest-shorter [] h = absurd (omega arith)
 rest-shorter (x ∷ p) h = refl
 
 -- a vertex listens to the next hop of each of its paths
-pub next-listens : (paths : ℕ → List Path) (v k : ℕ) → k < length (paths v) → listens paths v (nextHop (getD (paths v) k [])) ≡ true
+pub next-listens : (paths : ℕ → List Path) (v k : ℕ)
+    → k < length (paths v)
+    → listens paths v (nextHop (getD (paths v) k [])) ≡ true
 unfolding listens
 next-listens paths v k h =
     let w = nextHop (getD (paths v) k []) in
@@ -74,7 +76,8 @@ module _ (present : ℕ → Bool) (S : Settled) where
   rest-settled v p q r e c s =
       let w = hop-second p (r .long) in
       w ∙ same-eq (nextHop p ∷ rest (rest p)) q
-      (sym (compatible-settled S (nextHop p) (rest (rest p)) q s) ∙ ap (compatible S) (sym w) ∙ sym (compatible-rest v p r e) ∙ c)
+      (sym (compatible-settled S (nextHop p) (rest (rest p)) q s) ∙ ap (compatible S) (sym w) ∙ sym
+      (compatible-rest v p r e) ∙ c)
 
 -- v waits, and would be judged to settle with p
 
@@ -87,7 +90,8 @@ module _ (paths : ℕ → List Path) (present : ℕ → Bool) (shaped : Shaped p
         → bestGiven paths given v ≡ p
     unfolding bestGiven best extends
     entering given fails agrees =
-        first-agrees (compatible S) (extends given) (paths v) fails (λ r. picked (best paths S v) (r .stands) (r .passes) enters)
+        first-agrees (compatible S) (extends given) (paths v) fails
+        (λ r. picked (best paths S v) (r .stands) (r .passes) enters)
         ∙ sym (judged-path paths present S (best paths S v) p enters)
       where
         picked : (c : Path) → Stands (paths v) c → compatible S c ≡ true → judged S c ≡ some p → extends given c ≡ true

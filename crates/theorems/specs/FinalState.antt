@@ -24,8 +24,8 @@ use Rattle.theorems.specs.StableAssignments.{reportedPaths, none-stuck, 
 use Rattle.theorems.specs.RestingPoints.{stable-rests}
 
 module _ (t : List ℕ) (accepted : refusal t ≡ none) (done : verdictOf (report t .ringLength) ≡ complete) where
-  -- After s times L rounds and one more, from every valid heard state and by whatever accepted calls, the heard state is the one that
-  -- stores the paths of the report.
+  -- After s times L rounds and one more, from every valid heard state and by whatever accepted calls, the heard state
+  -- is the one that stores the paths of the report.
   pub complete-ends : (heard : List ℕ) (calls : List Call)
       → Valid t heard
       → AllAccepted t heard calls

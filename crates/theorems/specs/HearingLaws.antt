@@ -1,4 +1,5 @@
--- What rounds do: where a schedule's last round begins after the speaker's choice has come to last, every listener has heard it for good.
+-- What rounds do: where a schedule's last round begins after the speaker's choice has come to last, every listener has
+-- heard it for good.
 use Prim.Native.Nat.{ℕ, suc, _+_, _*_}
 use mathlib.Core.Path.{_≡_, refl, sym, ap, _∙_, subst}
 use mathlib.Core.Bool.{Bool, true, _&&_}
@@ -27,14 +28,19 @@ module _ (paths : ℕ → List Path) (present : ℕ → Bool) (shaped : Shaped p
   pairs = listeningOffsets paths
 
   -- a round activates every listening pair
-  round-activates : (v u : ℕ) → listens paths v u ≡ true → (stretch : List Pair) → Covers pairs stretch → elem (64 * v + u) (map offsetOf stretch) ≡ true
+  round-activates : (v u : ℕ)
+      → listens paths v u ≡ true
+      → (stretch : List Pair)
+      → Covers pairs stretch
+      → elem (64 * v + u) (map offsetOf stretch) ≡ true
   unfolding offsetOf elem
   round-activates v u l stretch covers =
       let r = listening paths present shaped v u l in
       let here = offset-listens paths (record { listener = v; speaker = u }) (r .speakerSmall) ∙ l in
       covers (64 * v + u)
       (ap (anyIn (eqb (64 * v + u))) (offsets-those paths) ∙ any-those (listensAt paths) (eqb (64 * v + u)) 4096
-      ∙ any-below (λ k. listensAt paths k && eqb (64 * v + u) k) 4096 (64 * v + u) (omega (arith, r .listenerSmall, r .speakerSmall))
+      ∙ any-below (λ k. listensAt paths k && eqb (64 * v + u) k) 4096 (64 * v + u)
+      (omega (arith, r .listenerSmall, r .speakerSmall))
       (both (listensAt paths (64 * v + u)) (eqb (64 * v + u) (64 * v + u)) here (eq-eqb (64 * v + u) (64 * v + u) refl)))
 
   -- v listens to u; a schedule of n rounds and one more begins at a heard state
@@ -54,12 +60,14 @@ module _ (paths : ℕ → List Path) (present : ℕ → Bool) (shaped : Shaped p
         let inner = range-parts (last .before) (last .stretch) (outer .0) in
         let x = listening paths present shaped v u l in
         let then = after paths heard (last .before) in
-        let whole = ap (after paths heard) (last .parts) ∙ fold-append (step paths) heard (last .before ++ last .stretch) (last .after)
+        let whole = ap (after paths heard) (last .parts) ∙ fold-append (step paths) heard
+        (last .before ++ last .stretch) (last .after)
         ∙ ap (λ (h : List ℕ). after paths h (last .after)) (fold-append (step paths) heard (last .before) (last .stretch)) in
         let lasts = heard-once paths v u (x .listenerSmall) (x .speakerSmall) C (last .stretch) then (inner .1)
         (after-length paths heard (last .before) long) (chosen (last .before) (inner .0) (last .earlier))
         (round-activates v u l (last .stretch) (last .covered)) in
-        rw whole (lasting-later paths (λ h. C (getD h (64 * v + u) 0)) (after paths then (last .stretch)) lasts (last .after) (outer .1))
+        rw whole (lasting-later paths (λ h. C (getD h (64 * v + u) 0)) (after paths then (last .stretch)) lasts
+        (last .after) (outer .1))
 
     -- .. and the same of paths
     pub heard-after : (C : Path → Type 0)
@@ -73,4 +81,5 @@ module _ (paths : ℕ → List Path) (present : ℕ → Bool) (shaped : Shaped p
         λ h. byte-tells paths u (choice paths h u) (choice-spoken paths h u) in
         let bytes = byte-after (λ b. C (pathFor paths u b))
         (λ before r c i j. subst C (sym (told (after paths (after paths heard before) i))) (chosen before r c i j)) in
-        subst C (sym (heard-in paths (after paths (after paths heard s) t) v u (listening paths present shaped v u l .speakerSmall))) (bytes t q)
+        subst C (sym (heard-in paths (after paths (after paths heard s) t) v u
+        (listening paths present shaped v u l .speakerSmall))) (bytes t q)

@@ -1,4 +1,5 @@
--- What holds from a heard state on, whatever is activated: a choice that lasts is heard for good at every pair that is activated once.
+-- What holds from a heard state on, whatever is activated: a choice that lasts is heard for good at every pair that is
+-- activated once.
 use Prim.{Unit, tt}
 use Prim.Native.Nat.{ℕ, _+_, _*_, _<_}
 use mathlib.Core.Path.{_≡_, sym, _∙_, subst}
@@ -92,11 +93,17 @@ module _ (paths : ℕ → List Path) where
         subst C (sym new) c
 
     -- a step leaves what v heard from u, or renews it by u's choice
-    heard-on : (heard : List ℕ) (p : Pair) → Vertices p → length heard ≡ 4096 → Chosen heard → Heard heard → Heard (step paths heard p)
+    heard-on : (heard : List ℕ) (p : Pair)
+        → Vertices p
+        → length heard ≡ 4096
+        → Chosen heard
+        → Heard heard
+        → Heard (step paths heard p)
     unfolding offsetOf
     heard-on heard p r n c h =
         by-equal (64 * v + u) (offsetOf p)
-        (λ e. let told = told-apart v u (p .listener) (p .speaker) speaker (r .speaker) e in heard-here heard p n (told .0) (told .1) c)
+        (λ e. let told = told-apart v u (p .listener) (p .speaker) speaker (r .speaker) e in heard-here heard p n
+        (told .0) (told .1) c)
         (λ e. subst C (sym (step-there paths heard p (64 * v + u) e)) h)
 
     -- so what was once heard so is heard so for good, where the choice lasts
@@ -125,7 +132,9 @@ module _ (paths : ℕ → List Path) where
         let next = lasting-step Chosen heard l p (r .0) in
         let long = step-length paths heard p ∙ n in
         by-test (eqb (64 * v + u) (offsetOf p))
-        (λ q. let told = told-apart v u (p .listener) (p .speaker) speaker (r .0 .speaker) (eqb-true (64 * v + u) (offsetOf p) q) in
+        (λ q. let told = told-apart v u (p .listener) (p .speaker) speaker (r .0 .speaker)
+        (eqb-true (64 * v + u) (offsetOf p) q) in
         let here = heard-here heard p n (told .0) (told .1) (lasting-now Chosen heard l) in
         lasting-later Heard (step paths heard p) (λ t i. heard-lasts t (step paths heard p) i long next here) s (r .1))
-        (λ q. heard-once s (step paths heard p) (r .1) long next (rw q at (sym (elem-cons (64 * v + u) (offsetOf p) (map offsetOf s)) ∙ e)))
+        (λ q. heard-once s (step paths heard p) (r .1) long next
+        (rw q at (sym (elem-cons (64 * v + u) (offsetOf p) (map offsetOf s)) ∙ e)))

@@ -124,10 +124,29 @@ table4Moment =
 unfoldable pub table4End : List Row
 table4End =
     record { pairs = 2 ∷ 1 ∷ 1 ∷ 2 ∷ []; selected = (1 ∷ 2 ∷ 4 ∷ 0 ∷ []) ∷ (2 ∷ 4 ∷ 0 ∷ []) ∷ (3 ∷ 0 ∷ []) ∷ (4 ∷ 2 ∷ 3 ∷ 0 ∷ []) ∷ [] }
-    ∷ record { pairs = 2 ∷ 4 ∷ []; selected = (1 ∷ 2 ∷ 4 ∷ 0 ∷ []) ∷ (2 ∷ 1 ∷ 0 ∷ []) ∷ (3 ∷ 0 ∷ []) ∷ (4 ∷ 2 ∷ 3 ∷ 0 ∷ []) ∷ [] }
-    ∷ record { pairs = 3 ∷ 2 ∷ []; selected = (1 ∷ 2 ∷ 4 ∷ 0 ∷ []) ∷ (2 ∷ 1 ∷ 0 ∷ []) ∷ (3 ∷ 2 ∷ 1 ∷ 0 ∷ []) ∷ (4 ∷ 2 ∷ 3 ∷ 0 ∷ []) ∷ [] }
-    ∷ record { pairs = 4 ∷ 3 ∷ []; selected = (1 ∷ 2 ∷ 4 ∷ 0 ∷ []) ∷ (2 ∷ 1 ∷ 0 ∷ []) ∷ (3 ∷ 2 ∷ 1 ∷ 0 ∷ []) ∷ (4 ∷ 2 ∷ 3 ∷ 0 ∷ []) ∷ [] }
-    ∷ record { pairs = 2 ∷ 1 ∷ 2 ∷ 3 ∷ 2 ∷ 4 ∷ []; selected = (1 ∷ 2 ∷ 4 ∷ 0 ∷ []) ∷ [] ∷ (3 ∷ 2 ∷ 1 ∷ 0 ∷ []) ∷ (4 ∷ 2 ∷ 3 ∷ 0 ∷ []) ∷ [] }
+    ∷ record {
+      pairs =
+          2 ∷ 4 ∷ [];
+      selected = (1 ∷ 2 ∷ 4 ∷ 0 ∷ []) ∷ (2 ∷ 1 ∷ 0 ∷ []) ∷ (3 ∷ 0 ∷ []) ∷ (4 ∷ 2 ∷ 3 ∷ 0 ∷ []) ∷ [];
+    }
+    ∷ record {
+      pairs =
+          3 ∷ 2 ∷ [];
+      selected =
+          (1 ∷ 2 ∷ 4 ∷ 0 ∷ []) ∷ (2 ∷ 1 ∷ 0 ∷ []) ∷ (3 ∷ 2 ∷ 1 ∷ 0 ∷ []) ∷ (4 ∷ 2 ∷ 3 ∷ 0 ∷ []) ∷ [];
+    }
+    ∷ record {
+      pairs =
+          4 ∷ 3 ∷ [];
+      selected =
+          (1 ∷ 2 ∷ 4 ∷ 0 ∷ []) ∷ (2 ∷ 1 ∷ 0 ∷ []) ∷ (3 ∷ 2 ∷ 1 ∷ 0 ∷ []) ∷ (4 ∷ 2 ∷ 3 ∷ 0 ∷ []) ∷ [];
+    }
+    ∷ record {
+      pairs =
+          2 ∷ 1 ∷ 2 ∷ 3 ∷ 2 ∷ 4 ∷ [];
+      selected =
+          (1 ∷ 2 ∷ 4 ∷ 0 ∷ []) ∷ [] ∷ (3 ∷ 2 ∷ 1 ∷ 0 ∷ []) ∷ (4 ∷ 2 ∷ 3 ∷ 0 ∷ []) ∷ [];
+    }
     ∷ record { pairs = 1 ∷ 2 ∷ 3 ∷ 2 ∷ 4 ∷ 2 ∷ []; selected = (1 ∷ 0 ∷ []) ∷ [] ∷ (3 ∷ 0 ∷ []) ∷ (4 ∷ 0 ∷ []) ∷ [] }
     ∷ []
 
@@ -161,10 +180,12 @@ badGadgetRounds =
 
 -- ours: row 3's pairs of Table 4 one after the other, 4 or 2 first
 unfoldable pub edgeFourFirst : Row
-edgeFourFirst = record { pairs = 4 ∷ 2 ∷ 2 ∷ 4 ∷ []; selected = (1 ∷ 0 ∷ []) ∷ (2 ∷ 3 ∷ 0 ∷ []) ∷ (3 ∷ 0 ∷ []) ∷ (4 ∷ 2 ∷ 3 ∷ 0 ∷ []) ∷ [] }
+edgeFourFirst =
+    record { pairs = 4 ∷ 2 ∷ 2 ∷ 4 ∷ []; selected = (1 ∷ 0 ∷ []) ∷ (2 ∷ 3 ∷ 0 ∷ []) ∷ (3 ∷ 0 ∷ []) ∷ (4 ∷ 2 ∷ 3 ∷ 0 ∷ []) ∷ [] }
 
 unfoldable pub edgeTwoFirst : Row
-edgeTwoFirst = record { pairs = 2 ∷ 4 ∷ 4 ∷ 2 ∷ []; selected = (1 ∷ 0 ∷ []) ∷ (2 ∷ 4 ∷ 0 ∷ []) ∷ (3 ∷ 0 ∷ []) ∷ (4 ∷ 0 ∷ []) ∷ [] }
+edgeTwoFirst =
+    record { pairs = 2 ∷ 4 ∷ 4 ∷ 2 ∷ []; selected = (1 ∷ 0 ∷ []) ∷ (2 ∷ 4 ∷ 0 ∷ []) ∷ (3 ∷ 0 ∷ []) ∷ (4 ∷ 0 ∷ []) ∷ [] }
 
 -- ours: BLEEDIN-EDGE, a round of all its pairs from zeros
 unfoldable pub bleedinRound : Row
@@ -192,7 +213,9 @@ module _ (paths : ℕ → List Path) where
   -- a row as 001 has it: all its pairs at one moment, each hearing what its speaker has selected before it; the rules
   -- have no such step
   unfoldable pub atOnce : List ℕ → List ℕ → List ℕ
-  atOnce heard pairs = foldLeft (λ h p. set h (offsetOf p) (byteFor paths (p .speaker) (choice paths heard (p .speaker)))) heard (pairsIn pairs)
+  atOnce heard pairs =
+      foldLeft (λ h p. set h (offsetOf p) (byteFor paths (p .speaker) (choice paths heard (p .speaker)))) heard
+      (pairsIn pairs)
 
   -- a row as the rules' machine works it: pair by pair
   unfoldable pub oneByOne : List ℕ → List ℕ → List ℕ

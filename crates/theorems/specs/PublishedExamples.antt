@@ -29,9 +29,9 @@ use Rattle.theorems.specs.RestingPoints.{rests-resting, resting-stable}
 use Rattle.theorems.specs.PublishedLaws.{Stores, otherStored, stored-rests, Crossed, never-crossed, StableState, Routers, unstable, everyDraw, samePaths, Only, tested-stable, stable-named}
 use Rattle.theorems.specs.Published.{disagree, badGadget, bleedinEdge, diSafeGree, disagreeBytes, badGadgetBytes, bleedinEdgeBytes, diSafeGreeBytes, assigned, routersPaths, disagreeFirst, disagreeSecond, bleedinStable, diSafeGreeStable, table2, table4Begin, table4Moment, table4End, table4, disagreeTwoFirst, disagreeOneFirst, badGadgetRound, badGadgetRounds, edgeFourFirst, edgeTwoFirst, bleedinRound, diSafeGreeRows, atOnce, oneByOne, afterRows, selectedIn, selectedAfter, AtOnce, OneByOne, nothingHeard, directHeard, rowThree, rowNine}
 
--- What the first check says of each: the verdict, its numbers (ring length, settled, stuck, stages, longest), the rows and the ring. 001 has the
--- first check of DI-SAFE-GREE alone, in section 4: "At the first iteration, vertex 1 enters the stable set .. At the second iteration, the
--- algorithm forcedly stops."
+-- What the first check says of each: the verdict, its numbers (ring length, settled, stuck, stages, longest), the rows
+-- and the ring. 001 has the first check of DI-SAFE-GREE alone, in section 4: "At the first iteration, vertex 1 enters
+-- the stable set .. At the second iteration, the algorithm forcedly stops."
 unfoldable pub checks : List Example
 checks =
     (check disagreeBytes gives checked (stuck 2) (2 ∷ 0 ∷ 2 ∷ 0 ∷ 2 ∷ [])
@@ -59,8 +59,10 @@ unfolding refusedIf refusedAt _orElse_ outside firstFrom anyBelow
     hopsOf pathOf ownerOf owned pathsBelow pathsOf present longest nextHop rest first listens listensAt hopsBad vertexBad
     unusedOf fillerBad twice twiceBad lastBad ownerBad rankDue rankBad pathBad inRecord rule recordRules firstBroken
     fault faulty firstBad badRecord tooLong ragged refusal isSettled compatible atStart best judged stage settledList settled
-    enters isQuiet stagesFrom stagesUntil stageCount stageOf stuckIn follows fromVertex beforeVertex closedPart lowestOf turned ringFrom
-    placeIn rankIn rowBytes row report verdictOf rawRecord recordBytes blockBytes tableBytes shown absent checkedOf unlessRefused outcome
+    enters isQuiet stagesFrom stagesUntil stageCount stageOf stuckIn follows fromVertex beforeVertex closedPart lowestOf
+    turned ringFrom
+    placeIn rankIn rowBytes row report verdictOf rawRecord recordBytes blockBytes tableBytes shown absent checkedOf
+    unlessRefused outcome
     disagree badGadget bleedinEdge diSafeGree disagreeBytes badGadgetBytes bleedinEdgeBytes diSafeGreeBytes checks
 published-checked = refl
 
@@ -97,11 +99,15 @@ pub record Computed : Type 0 where
 
 pub computed : Computed
 unfolding outside anyBelow anyIn firstIn elem same maxBelow twice tabulate padded firstFrom foldLeft thoseBelow
-    refusedIf refusedAt _orElse_ recordAt records rankOf hopsOf pathOf ownerOf owned pathsBelow pathsOf present nextHop rest first listens listensAt
+    refusedIf refusedAt _orElse_ recordAt records rankOf hopsOf pathOf ownerOf owned pathsBelow pathsOf present nextHop
+    rest first listens listensAt
     hopsBad vertexBad unusedOf fillerBad twiceBad lastBad ownerBad rankDue rankBad pathBad inRecord rule recordRules firstBroken
-    fault faulty firstBad badRecord tooLong ragged refusal extends bestGiven placeIn speaks byteFor pathFor badAt badByte heardFault
-    rawRecord recordBytes blockBytes tableBytes disagree badGadget bleedinEdge diSafeGree disagreeBytes badGadgetBytes bleedinEdgeBytes diSafeGreeBytes
-    assigned disagreeFirst disagreeSecond bleedinStable diSafeGreeStable nothingHeard directHeard rowThree rowNine unstable everyDraw samePaths
+    fault faulty firstBad badRecord tooLong ragged refusal extends bestGiven placeIn speaks byteFor pathFor badAt
+    badByte heardFault
+    rawRecord recordBytes blockBytes tableBytes disagree badGadget bleedinEdge diSafeGree disagreeBytes badGadgetBytes
+    bleedinEdgeBytes diSafeGreeBytes
+    assigned disagreeFirst disagreeSecond bleedinStable diSafeGreeStable nothingHeard directHeard rowThree rowNine
+    unstable everyDraw samePaths
 computed =
     record {
       disagreeRouters = record { accepted = refl; others = refl; all = refl };
@@ -166,10 +172,12 @@ pub record Followed : Type 0 where
 
 pub followed : Followed
 unfolding outside anyBelow thoseBelow anyIn firstIn elem same tabulate foldLeft padded recordAt records rankOf
-    hopsOf pathOf ownerOf owned pathsBelow pathsOf nextHop rest first listens listensAt extends bestGiven placeIn offsetOf speaks byteFor pathFor
+    hopsOf pathOf ownerOf owned pathsBelow pathsOf nextHop rest first listens listensAt extends bestGiven placeIn
+    offsetOf speaks byteFor pathFor
     lastHeard choice step pairsIn rawRecord recordBytes blockBytes tableBytes storedByte otherStored
     disagree badGadget bleedinEdge diSafeGree disagreeBytes badGadgetBytes bleedinEdgeBytes diSafeGreeBytes
-    assigned routersPaths disagreeFirst disagreeSecond bleedinStable diSafeGreeStable table2 table4Begin table4Moment table4End table4
+    assigned routersPaths disagreeFirst disagreeSecond bleedinStable diSafeGreeStable table2 table4Begin table4Moment
+    table4End table4
     disagreeTwoFirst disagreeOneFirst badGadgetRound badGadgetRounds edgeFourFirst edgeTwoFirst bleedinRound diSafeGreeRows
     atOnce oneByOne afterRows selectedIn selectedAfter nothingHeard directHeard rowThree rowNine
 followed =
@@ -206,10 +214,12 @@ pub disagree-second : StableState disagreeBytes disagreeSecond
 disagree-second = tested-stable disagreeBytes 2 (computed .disagreeRouters) disagreeSecond (computed .secondPasses)
 
 pub bleedin-edge-stable : StableState bleedinEdgeBytes bleedinStable
-bleedin-edge-stable = tested-stable bleedinEdgeBytes 4 (computed .bleedinRouters) bleedinStable (computed .bleedinPasses)
+bleedin-edge-stable =
+    tested-stable bleedinEdgeBytes 4 (computed .bleedinRouters) bleedinStable (computed .bleedinPasses)
 
 pub di-safe-gree-stable : StableState diSafeGreeBytes diSafeGreeStable
-di-safe-gree-stable = tested-stable diSafeGreeBytes 3 (computed .diSafeGreeRouters) diSafeGreeStable (computed .diSafeGreePasses)
+di-safe-gree-stable =
+    tested-stable diSafeGreeBytes 3 (computed .diSafeGreeRouters) diSafeGreeStable (computed .diSafeGreePasses)
 
 -- .. and there is no other stable assignment: DISAGREE has the two, ..
 pub disagree-only : (a : ℕ → Path)
@@ -245,11 +255,16 @@ only-one t n ps routers draws a stable =
     let z : found .0 ≡ 0 = omega (arith, found .1) in
     rw z at (found .2)
 
-pub bleedin-edge-only : (a : ℕ → Path) → Stable (pathsOf bleedinEdgeBytes) (present bleedinEdgeBytes) a → routersPaths 4 a ≡ bleedinStable
+pub bleedin-edge-only : (a : ℕ → Path)
+    → Stable (pathsOf bleedinEdgeBytes) (present bleedinEdgeBytes) a
+    → routersPaths 4 a ≡ bleedinStable
 bleedin-edge-only = only-one bleedinEdgeBytes 4 bleedinStable (computed .bleedinRouters) (computed .bleedinDraws)
 
-pub di-safe-gree-only : (a : ℕ → Path) → Stable (pathsOf diSafeGreeBytes) (present diSafeGreeBytes) a → routersPaths 3 a ≡ diSafeGreeStable
-di-safe-gree-only = only-one diSafeGreeBytes 3 diSafeGreeStable (computed .diSafeGreeRouters) (computed .diSafeGreeDraws)
+pub di-safe-gree-only : (a : ℕ → Path)
+    → Stable (pathsOf diSafeGreeBytes) (present diSafeGreeBytes) a
+    → routersPaths 3 a ≡ diSafeGreeStable
+di-safe-gree-only =
+    only-one diSafeGreeBytes 3 diSafeGreeStable (computed .diSafeGreeRouters) (computed .diSafeGreeDraws)
 
 -- What the rows come to one by one: these states rest.
 

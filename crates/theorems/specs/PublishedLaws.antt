@@ -47,7 +47,8 @@ unstable t n a = anyBelow (λ k. not (same (a (suc k)) (bestGiven (pathsOf t) a 
 -- whether a test holds of every list of n paths, for the routers 1 to n, that has one of its own paths or none for each
 unfoldable pub everyDraw : (ℕ → List Path) → ℕ → (List Path → Bool) → Bool
 everyDraw paths zero test = test []
-everyDraw paths (suc n) test = everyDraw paths n (λ ps. not (anyIn (λ p. not (test (ps ++ p ∷ []))) ([] ∷ paths (suc n))))
+everyDraw paths (suc n) test =
+    everyDraw paths n (λ ps. not (anyIn (λ p. not (test (ps ++ p ∷ []))) ([] ∷ paths (suc n))))
 
 -- if so, it holds of every assignment that gives each of these routers one of its paths or none
 every-drawn : (paths : ℕ → List Path) (a : ℕ → Path) (n : ℕ) (test : List Path → Bool)
@@ -141,30 +142,40 @@ module _ (t : List ℕ) (n : ℕ) (routers : Routers t n) where
         routers-same (suc k) h ∙ stable .others (suc k) (λ z. omega arith) (router-present k h)
         ∙ best-same paths a b (suc k)
         (λ j l. let u = nextHop (getD (paths (suc k)) j []) in
-        let named = speaker-present paths (present t) (shaped t (routers .accepted)) (suc k) u (next-listens paths (suc k) j l) in
+        let named = speaker-present paths (present t) (shaped t (routers .accepted)) (suc k) u
+        (next-listens paths (suc k) j l) in
         sym (routers-same u (present-most u named)))
         in
         rw (← e) (ap not (same-refl (b (suc k)))))
 
     stable-drawn : (k : ℕ) → k < n → (a (suc k) ≡ []) ⊎ Stands (pathsOf t (suc k)) (a (suc k))
     unfolding bestGiven
-    stable-drawn k h = rw (stable .others (suc k) (λ z. omega arith) (router-present k h)) (first-among (extends a) (pathsOf t (suc k)))
+    stable-drawn k h =
+        rw (stable .others (suc k) (λ z. omega arith) (router-present k h))
+        (first-among (extends a) (pathsOf t (suc k)))
 
     -- so the paths of every stable assignment are named
-    pub stable-named : (named : List (List Path)) → Only t n named → (k : ℕ) × (k < length named) × (routersPaths n a ≡ getD named k [])
+    pub stable-named : (named : List (List Path))
+        → Only t n named
+        → (k : ℕ) × (k < length named) × (routersPaths n a ≡ getD named k [])
     stable-named named e =
         let drawn = every-drawn (pathsOf t) a n _ stable-drawn e in
         let found = some-at (samePaths (routersPaths n a)) named [] (rw stable-passes at drawn) in
         (found .0, found .1, same-paths (routersPaths n a) (getD named (found .0) []) (found .2))
 
 -- a state that no step at a pair of vertices changes is changed by no accepted step
-untouched : (t heard : List ℕ) → someStepChanges t heard ≡ false → (p : Pair) → stepRefusal t heard p ≡ none → heardAfterStep t heard p ≡ heard
+untouched : (t heard : List ℕ)
+    → someStepChanges t heard ≡ false
+    → (p : Pair)
+    → stepRefusal t heard p ≡ none
+    → heardAfterStep t heard p ≡ heard
 unfolding someStepChanges changesAt pairAt
 untouched t heard e p q =
     let admitted = step-admitted t heard p q in
     let l = all-listen (pathsOf t) (p ∷ []) p (admitted .listening) 0 (omega arith) in
     let r = listening (pathsOf t) (present t) (shaped t (admitted .accepted)) (p .listener) (p .speaker) l in
-    let here = none-below (changesAt t heard) 4096 e (64 * p .listener + p .speaker) (omega (arith, r .listenerSmall, r .speakerSmall)) in
+    let here = none-below (changesAt t heard) 4096 e (64 * p .listener + p .speaker)
+    (omega (arith, r .listenerSmall, r .speakerSmall)) in
     rw (told-first (p .listener) (p .speaker) (r .speakerSmall), told-second (p .listener) (p .speaker) (r .speakerSmall))
     at (same-eq _ _ (not-false _ here))
 
@@ -177,7 +188,8 @@ untouched-rests t heard valid e =
 -- .. and the other way round.
 pub rests-untouched : (t heard : List ℕ) → Rests t heard → someStepChanges t heard ≡ false
 unfolding someStepChanges changesAt
-rests-untouched t heard rests = all-fail (changesAt t heard) 4096 (λ k h. rw (rests .unchanged (pairAt k)) (ap not (same-refl heard)))
+rests-untouched t heard rests =
+    all-fail (changesAt t heard) 4096 (λ k h. rw (rests .unchanged (pairAt k)) (ap not (same-refl heard)))
 
 -- whether some byte of a heard state is not what the state that stores an assignment has there
 unfoldable pub otherStored : List ℕ → (ℕ → Path) → List ℕ → Option ℕ
@@ -194,7 +206,8 @@ is-storing t heard ps stores =
     let a = assigned ps in
     is-tabulate (storedByte t a) 0 4096 heard (stores .long)
     (λ k h. let z : 0 + k ≡ k = omega arith in
-    let found = first-in-none (λ j b. not (eqb b (storedByte t a j))) heard 0 0 (stores .same) k (omega (arith, stores .long)) in
+    let found = first-in-none (λ j b. not (eqb b (storedByte t a j))) heard 0 0 (stores .same) k
+    (omega (arith, stores .long)) in
     eqb-true (getD heard k 0) (storedByte t a k) (not-false _ (rw z at found)))
 
 -- and it rests where the paths are a stable state
@@ -210,10 +223,15 @@ module _ (paths : ℕ → List Path) (v u b c : ℕ) (small : v < 64) (smaller :
 
   module _ (one : (heard : List ℕ) → getD heard (64 * v + u) 0 ≡ b → byteFor paths v (choice paths heard v) ≡ c → ⊥)
       (other : (heard : List ℕ) → getD heard (64 * u + v) 0 ≡ c → byteFor paths u (choice paths heard u) ≡ b → ⊥) where
-    step-crosses : (heard : List ℕ) (p : Pair) → Vertices p → length heard ≡ 4096 → Crossed (step paths heard p) → Crossed heard
+    step-crosses : (heard : List ℕ) (p : Pair)
+        → Vertices p
+        → length heard ≡ 4096
+        → Crossed (step paths heard p)
+        → Crossed heard
     unfolding offsetOf
     step-crosses heard p r long now =
-        let kept : (k : ℕ) → k ≢ offsetOf p → getD heard k 0 ≡ getD (step paths heard p) k 0 = λ k d. sym (step-there paths heard p k d) in
+        let kept : (k : ℕ) → k ≢ offsetOf p → getD heard k 0 ≡ getD (step paths heard p) k 0 = λ k d. sym
+        (step-there paths heard p k d) in
         let new : byteFor paths (p .speaker) (choice paths heard (p .speaker)) ≡ getD (step paths heard p) (offsetOf p) 0 =
         sym (step-here paths heard p (omega (arith, r .listener, r .speaker, long)))
         in
@@ -227,7 +245,11 @@ module _ (paths : ℕ → List Path) (v u b c : ℕ) (small : v < 64) (smaller :
         (rw (told .1) (new ∙ ap (λ (k : ℕ). getD (step paths heard p) k 0) (sym e) ∙ now .1))))
         (λ f. (kept (64 * v + u) d ∙ now .0, kept (64 * u + v) f ∙ now .1)))
 
-    pub never-crossed : (s : List Pair) (heard : List ℕ) → InRange s → length heard ≡ 4096 → Crossed (after paths heard s) → Crossed heard
+    pub never-crossed : (s : List Pair) (heard : List ℕ)
+        → InRange s
+        → length heard ≡ 4096
+        → Crossed (after paths heard s)
+        → Crossed heard
     unfolding foldLeft InRange
     never-crossed [] heard r long now = now
     never-crossed (p ∷ s) heard r long now =

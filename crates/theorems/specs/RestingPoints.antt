@@ -38,7 +38,8 @@ module _ (t : List ℕ) (accepted : refusal t ≡ none) where
   rests-resting heard rests v u l =
       let p : Pair = record { listener = v; speaker = u } in
       let valid = rests .valid in
-      let stepped : step (pathsOf t) heard p ≡ heard = rw (step-accepted t heard p (valid .long) accepted (valid .fine) l) at (rests .unchanged p) in
+      let stepped : step (pathsOf t) heard p ≡ heard = rw
+      (step-accepted t heard p (valid .long) accepted (valid .fine) l) at (rests .unchanged p) in
       let r = listening (pathsOf t) (present t) (shaped t accepted) v u l in
       ap (λ (h : List ℕ). getD h (64 * v + u) 0) (sym stepped)
       ∙ step-here (pathsOf t) heard p (omega (arith, valid .long, r .listenerSmall, r .speakerSmall))
@@ -60,7 +61,8 @@ module _ (t : List ℕ) (accepted : refusal t ≡ none) where
     unfolding bestGiven
     assigned-spoken u e =
         by-equal u 0
-        (λ z. rw (z, stable .destination, speaks-destination (pathsOf t)) (inr (record { place = 0; under = omega arith; there = refl })))
+        (λ z. rw (z, stable .destination, speaks-destination (pathsOf t))
+        (inr (record { place = 0; under = omega arith; there = refl })))
         (λ z. rw (speaks-other (pathsOf t) u z, stable .others u z e) (first-among (extends assigned) (pathsOf t u)))
 
     -- The choices of that state are the assignment ..
@@ -78,9 +80,11 @@ module _ (t : List ℕ) (accepted : refusal t ≡ none) where
           valid = storing-valid t accepted assigned;
           unchanged = resting-unchanged t (storing t assigned)
               (λ v u l. storing-holds t accepted assigned v u l
-              ∙ ap (byteFor (pathsOf t) u) (sym (stable-choices u (speaker-present (pathsOf t) (present t) (shaped t accepted) v u l))));
+              ∙ ap (byteFor (pathsOf t) u) (sym (stable-choices u
+              (speaker-present (pathsOf t) (present t) (shaped t accepted) v u l))));
         }
 
   -- And every valid state that no step changes is the one that stores its choices.
   pub rests-stored : (heard : List ℕ) → Rests t heard → heard ≡ storing t (choice (pathsOf t) heard)
-  rests-stored heard rests = holding-stored t accepted heard (choice (pathsOf t) heard) (rests .valid) (rests-resting heard rests)
+  rests-stored heard rests =
+      holding-stored t accepted heard (choice (pathsOf t) heard) (rests .valid) (rests-resting heard rests)

@@ -30,7 +30,8 @@ module _ (t : List ℕ) (accepted : refusal t ≡ none) (v : ℕ) where
       → rowOf t v ≡ rowBytes (stageOf (pathsOf t) (present t) v) (rankIn (pathsOf t) v p) p
   unfolding row
   row-settled p h e =
-      let here = settled-present (pathsOf t) (present t) (shaped t accepted .origin) (stageCount (pathsOf t) (present t)) v p e in
+      let here = settled-present (pathsOf t) (present t) (shaped t accepted .origin)
+      (stageCount (pathsOf t) (present t)) v p e in
       row-part t v h ∙ rw (here, e, row)
 
   -- the path of a settled vertex can be read back from its row
@@ -68,5 +69,6 @@ module _ (t : List ℕ) (accepted : refusal t ≡ none) (v : ℕ) where
       omega (arith, s .stage, s .isStage))
       (λ q. let mark : getD (rowOf t v) 0 0 ≡ 254 = ap (λ (x : List ℕ). getD x 0 0) part ∙ rw (q, row) in
       omega (arith, s .stage, s .isStage))))
-      (λ p e. let same : stageOf (pathsOf t) (present t) v ≡ k = sym (ap (λ (x : List ℕ). getD x 0 0) (row-settled p (s .vertex) e)) ∙ s .stage in
+      (λ p e. let same : stageOf (pathsOf t) (present t) v ≡ k = sym
+      (ap (λ (x : List ℕ). getD x 0 0) (row-settled p (s .vertex) e)) ∙ s .stage in
       (p, (rw same at (stage-settles (pathsOf t) (present t) v p e), reported p (s .vertex) e)))

@@ -35,7 +35,8 @@ module _ (t : List ℕ) (accepted : refusal t ≡ none) where
   unfolding report
   row-lasts v k row heard s long range rounds i r =
       let told = row-tells t accepted v k row in
-      let chosen = stages-hold (pathsOf t) (present t) (shaped t accepted) (longest t) (path-longest t accepted) k heard s long range rounds v (told .0)
+      let chosen = stages-hold (pathsOf t) (present t) (shaped t accepted) (longest t)
+      (path-longest t accepted) k heard s long range rounds v (told .0)
       (told .1 .0) i r in
       subst (AsReported t v) (sym chosen) (told .1 .1)
 
@@ -65,5 +66,6 @@ module _ (t : List ℕ) (accepted : refusal t ≡ none) where
   unfolding report
   calls-heard k heard calls valid a rounds u q e v l =
       rw (all-after t calls heard a)
-      (stages-heard (pathsOf t) (present t) (shaped t accepted) (longest t) (path-longest t accepted) k heard (pairsOf calls) (valid .long)
+      (stages-heard (pathsOf t) (present t) (shaped t accepted) (longest t) (path-longest t accepted) k heard
+      (pairsOf calls) (valid .long)
       (all-range t accepted calls heard a) rounds u q e v l)

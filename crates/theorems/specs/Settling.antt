@@ -21,9 +21,9 @@ use Rattle.theorems.specs.RowLaws.{row-tells}
 use Rattle.theorems.specs.CallLaws.{all-range, all-after, all-rounds, all-counted}
 use Rattle.theorems.specs.SettledLaws.{range-take, row-lasts, lasting-stays, calls-heard}
 
--- What is claimed of calls that together contain so many rounds, for stage k and L hops (`report t .hops` is L), where a round activates
--- each of the pairs of `pairs t` at least once. Both are left open so that other rounds, and fewer of them, can be refuted
--- (SettlingExamples).
+-- What is claimed of calls that together contain so many rounds, for stage k and L hops (`report t .hops` is L), where
+-- a round activates each of the pairs of `pairs t` at least once. Both are left open so that other rounds, and fewer of
+-- them, can be refuted (SettlingExamples).
 abbrev pub Settling : (List ℕ → List ℕ) → (ℕ → ℕ → ℕ) → Type 0
 Settling pairs enough =
     (t heard : List ℕ) (v k : ℕ) (calls : List Call)
@@ -31,15 +31,18 @@ Settling pairs enough =
     → Contains (pairs t) (enough k (report t .hops)) (pairsOf calls)
     → Stays t (heardAfter t heard calls) v
 
--- For every accepted table, every router whose row says stage k, every valid heard state and all accepted calls that together contain
--- k times L rounds: the router's choice is what its row reports, and stays so through every later step of every accepted call.
+-- For every accepted table, every router whose row says stage k, every valid heard state and all accepted calls that
+-- together contain k times L rounds: the router's choice is what its row reports, and stays so through every later step
+-- of every accepted call.
 pub settling : Settling listeningPairs (λ k hops. k * hops)
 settling t heard v k calls g rounds =
     rw (all-after t calls heard (g .each))
     (lasting-stays t (g .table) v (after (pathsOf t) heard (pairsOf calls))
-    (row-lasts t (g .table) v k (g .row) heard (pairsOf calls) (g .state .long) (all-range t (g .table) calls heard (g .each)) rounds))
+    (row-lasts t (g .table) v k (g .row) heard (pairsOf calls) (g .state .long)
+    (all-range t (g .table) calls heard (g .each)) rounds))
 
--- It need not wait for the end of a call: where the first n pairs contain the rounds, the choice is as reported after these and any m more.
+-- It need not wait for the end of a call: where the first n pairs contain the rounds, the choice is as reported after
+-- these and any m more.
 pub settling-within : (t heard : List ℕ) (v k : ℕ) (calls : List Call)
     → Given t heard v k calls
     → (n : ℕ)
@@ -54,10 +57,11 @@ settling-within t heard v k calls g n rounds m =
     let whole = run-heard paths heard (take (n + m) s) ∙ ap (after paths heard) (take-add n m s)
     ∙ fold-append (step paths) heard (take n s) (take m (drop n s)) in
     rw whole
-    (row-lasts t (g .table) v k (g .row) heard (take n s) (g .state .long) (parts .0) rounds (take m (drop n s)) (range-take m (drop n s) (parts .1) .0))
+    (row-lasts t (g .table) v k (g .row) heard (take n s) (g .state .long) (parts .0) rounds (take m (drop n s))
+    (range-take m (drop n s) (parts .1) .0))
 
--- After one round more, every router that listens to it holds the rank of that row, 0 where it reports no path, and still does after all
--- accepted calls that may follow.
+-- After one round more, every router that listens to it holds the rank of that row, 0 where it reports no path, and
+-- still does after all accepted calls that may follow.
 pub settling-heard : (t heard : List ℕ) (v k : ℕ) (calls : List Call)
     → Given t heard v k calls
     → Contains (listeningPairs t) (suc (k * report t .hops)) (pairsOf calls)
@@ -72,7 +76,8 @@ settling-heard t heard v k calls g rounds z w l later a =
     let now = heardAfter t heard calls in
     let told = row-tells t (g .table) v k (g .row) in
     let lasts = calls-heard t (g .table) k heard calls (g .state) (g .each) rounds v (told .0) (told .1 .0) w l in
-    ap (λ (h : List ℕ). getD h (64 * w + v) 0) (all-after t later now a) ∙ lasts (pairsOf later) (all-range t (g .table) later now a)
+    ap (λ (h : List ℕ). getD h (64 * w + v) 0) (all-after t later now a) ∙ lasts (pairsOf later)
+    (all-range t (g .table) later now a)
     ∙ ap (placeIn (told .0)) (speaks-other (pathsOf t) v z) ∙ told .1 .1 .rank
 
 -- The rounds that the runs answer, each counting from its own start, are rounds of the whole, ..

@@ -1,5 +1,5 @@
--- The theorem at work on table 7 of the rules page, from zeros and from a leftover state; and that fewer rounds, or rounds of fewer pairs,
--- are not enough.
+-- The theorem at work on table 7 of the rules page, from zeros and from a leftover state; and that fewer rounds, or
+-- rounds of fewer pairs, are not enough.
 use Prim.{tt}
 use Prim.Native.Nat.{ℕ, zero, suc, _<_, _+_, _-_, _*_, _≤_}
 use mathlib.Core.Path.{_≡_, refl, sym, ap, _∙_, subst}
@@ -60,7 +60,11 @@ aRun s = ofRun s (replicate 64 (pos 0))
 -- Six rounds over two runs and a step between them: the second round begins in the first run and ends in the last.
 unfoldable pub sixRounds : List Call
 sixRounds =
-    aRun (slowRound ++ 3 ∷ 2 ∷ []) ∷ ofStep (record { listener = 2; speaker = 1 }) ∷ aRun (2 ∷ 0 ∷ 1 ∷ 0 ∷ times 4 slowRound) ∷ []
+    aRun (slowRound ++ 3 ∷ 2 ∷ []) ∷ ofStep (record {
+      listener =
+          2;
+      speaker = 1;
+    }) ∷ aRun (2 ∷ 0 ∷ 1 ∷ 0 ∷ times 4 slowRound) ∷ []
 
 unfoldable pub twoRounds : List Call
 twoRounds = aRun (times 2 slowRound) ∷ []
@@ -131,15 +135,19 @@ pub record Computed : Type 0 where
   pub onePair : listeningPairs table2Bytes ≡ 64 ∷ []
 
 pub computed : Computed
-unfolding refusedIf refusedAt _orElse_ otherLength scheduleBad firstBadPair stepRefusal runRefusal heardAfterStep heardAfterRun unless outside firstFrom anyBelow
+unfolding refusedIf refusedAt _orElse_ otherLength scheduleBad firstBadPair stepRefusal runRefusal heardAfterStep
+    heardAfterRun unless outside firstFrom anyBelow
     countBelow thoseBelow anyIn firstIn elem same maxBelow tabulate blocks padded foldLeft recordAt records rankOf
     hopsOf pathOf ownerOf owned pathsBelow pathsOf present longest nextHop rest first listens listensAt hopsBad vertexBad
     unusedOf fillerBad twice twiceBad lastBad ownerBad rankDue rankBad pathBad inRecord rule recordRules firstBroken
     fault faulty firstBad badRecord tooLong ragged refusal isSettled compatible atStart best judged stage settledList settled
-    enters isQuiet stagesFrom stagesUntil stageCount stageOf stuckIn follows fromVertex beforeVertex closedPart lowestOf turned ringFrom
-    extends bestGiven placeIn rankIn rowBytes row report rowAt offsetOf speaks byteFor pathFor badAt badByte heardFault lastHeard
+    enters isQuiet stagesFrom stagesUntil stageCount stageOf stuckIn follows fromVertex beforeVertex closedPart lowestOf
+    turned ringFrom
+    extends bestGiven placeIn rankIn rowBytes row report rowAt offsetOf speaks byteFor pathFor badAt badByte heardFault
+    lastHeard
     choice step standingOf standing movement pairsIn isUp isDown more offsetsOf listeningOffsets closes begun activated run
-    rawRecord recordBytes blockBytes tableBytes callRefusal heardAfterCall pairsOfCall AllAccepted pairsOf zeros leftover slowRound times aRun sixRounds twoRounds threePairs threeTwice
+    rawRecord recordBytes blockBytes tableBytes callRefusal heardAfterCall pairsOfCall AllAccepted pairsOf zeros
+    leftover slowRound times aRun sixRounds twoRounds threePairs threeTwice
     table2Bytes table7Bytes vertices pathShown heardAfter roundsAnswered roundsOfCall runNumbers verdictOf
 computed =
     record {
@@ -196,14 +204,16 @@ refuted : (pairs : List ℕ → List ℕ) (enough : ℕ → ℕ → ℕ) {t hear
     → Settling pairs enough
     → ⊥
 refuted pairs enough {t} {heard} {v} {k} {calls} x chosen e differ rounds claim =
-    let stays = claim t heard v k calls (x .given) (subst (λ n. Contains (pairs t) (enough k n) (pairsOf calls)) (sym (x .longest)) rounds) in
+    let stays = claim t heard v k calls (x .given)
+    (subst (λ n. Contains (pairs t) (enough k n) (pairsOf calls)) (sym (x .longest)) rounds) in
     differ (ap length (sym e ∙ stays .now .path ∙ x .path))
 
 -- No number of rounds that is 0 for stage 1 and one hop is enough: table 2 ..
 pub no-rounds-short : (enough : ℕ → ℕ → ℕ) → enough 1 1 ≡ 0 → Settling listeningPairs enough → ⊥
 no-rounds-short enough e =
     refuted listeningPairs enough (computed .ofNone) [] (computed .noneChoice) (λ q. omega arith)
-    (subst (λ n. Contains (listeningPairs table2Bytes) n (pairsOf [])) (sym e) (contains-none (listeningPairs table2Bytes) (pairsOf [])))
+    (subst (λ n. Contains (listeningPairs table2Bytes) n (pairsOf [])) (sym e)
+    (contains-none (listeningPairs table2Bytes) (pairsOf [])))
 
 -- .. so neither is k times (L minus 1), nor (k minus 1) times L ..
 pub fewer-hops-short : Settling listeningPairs (λ k hops. k * (hops - 1)) → ⊥
@@ -224,8 +234,10 @@ three-pairs-short =
     let pairs = drop 1 (listeningPairs table7Bytes) in
     let round = pairsIn threePairs in
     let covers = closes-all pairs (map offsetOf round) (computed .threeCovered) in
-    refuted (λ t. drop 1 (listeningPairs t)) (λ k hops. k * hops) (computed .ofThree) [] (computed .threeChoice) (λ q. omega arith)
-    (rw (computed .threeParts) (contains-more pairs 1 round round (contains-more pairs 0 [] round (contains-none pairs []) covers) covers))
+    refuted (λ t. drop 1 (listeningPairs t)) (λ k hops. k * hops) (computed .ofThree) [] (computed .threeChoice)
+    (λ q. omega arith)
+    (rw (computed .threeParts) (contains-more pairs 1 round round
+    (contains-more pairs 0 [] round (contains-none pairs []) covers) covers))
 
 -- of no pairs every schedule contains as many rounds as one likes
 rounds-of-nothing : (n : ℕ) → Contains [] n (pairsOf [])

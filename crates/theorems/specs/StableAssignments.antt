@@ -1,4 +1,5 @@
--- Demand 3, its last sentence: every stable assignment agrees with the report on settled routers; a complete report is itself the only one.
+-- Demand 3, its last sentence: every stable assignment agrees with the report on settled routers; a complete report is
+-- itself the only one.
 use Prim.Native.Nat.{ℕ, zero, suc}
 use mathlib.Core.Path.{_≡_, refl, sym, _∙_, subst}
 use mathlib.Core.Logic.{_≢_}
@@ -6,7 +7,7 @@ use mathlib.Core.Bool.{true}
 use mathlib.Core.List.{List}
 use mathlib.Core.Option.{none, some}
 use native.Mathlib.Omega.{arith}
-use Rattle.lists.specs.Tests.{by-option}
+use Rattle.lists.specs.Tests.{by-option, impossible}
 use Rattle.rules.specs.Table.{Path, pathsOf, present}
 use Rattle.rules.specs.Greedy.{isSettled, stageCount, stuckIn}
 use Rattle.rules.specs.Stable.{Stable}
@@ -29,7 +30,7 @@ reportedPaths t v = pathShown (rowOf t v)
 complete-empty : (n : ℕ) → verdictOf n ≡ complete → n ≡ 0
 unfolding verdictOf
 complete-empty zero e = refl
-complete-empty (suc n) e = absurd (let z : _≡_ {A = ℕ} 0 1 = cc in omega arith)
+complete-empty (suc n) e = impossible cc
 
 module _ (t : List ℕ) (accepted : refusal t ≡ none) where
   -- Every stable assignment gives a router whose row says a stage what its row reports: that path, or none.
@@ -40,11 +41,14 @@ module _ (t : List ℕ) (accepted : refusal t ≡ none) where
       → AsReported t v (assigned v)
   stable-reported assigned stable v k row =
       let told = row-tells t accepted v k row in
-      subst (AsReported t v) (sym (stable-agrees (pathsOf t) (present t) (shaped t accepted) assigned stable k v (told .0) (told .1 .0))) (told .1 .1)
+      subst (AsReported t v) (sym (stable-agrees (pathsOf t) (present t) (shaped t accepted) assigned stable k v
+      (told .0) (told .1 .0))) (told .1 .1)
 
   -- the rows report what is settled in the end
   pub reported-settled : (v : ℕ) (p : Path) → final (pathsOf t) (present t) v ≡ some p → reportedPaths t v ≡ p
-  reported-settled v p e = sym (reported t accepted v p (settled-range (pathsOf t) (present t) (stageCount (pathsOf t) (present t)) v p e) e .path)
+  reported-settled v p e =
+      sym
+      (reported t accepted v p (settled-range (pathsOf t) (present t) (stageCount (pathsOf t) (present t)) v p e) e .path)
 
   module _ (done : verdictOf (report t .ringLength) ≡ complete) where
     -- where the verdict is complete, nobody is stuck
@@ -57,7 +61,8 @@ module _ (t : List ℕ) (accepted : refusal t ≡ none) where
     -- Where the verdict is complete, the report is a stable assignment ..
     pub complete-stable : Stable (pathsOf t) (present t) (reportedPaths t)
     complete-stable =
-        settled-stable (pathsOf t) (present t) (shaped t accepted) (reportedPaths t) (stageCount (pathsOf t) (present t)) reported-settled none-stuck
+        settled-stable (pathsOf t) (present t) (shaped t accepted) (reportedPaths t)
+        (stageCount (pathsOf t) (present t)) reported-settled none-stuck
 
     -- .. and the only one: every stable assignment gives each present router the path that its row reports.
     pub complete-only : (assigned : ℕ → Path)
@@ -68,5 +73,6 @@ module _ (t : List ℕ) (accepted : refusal t ≡ none) where
     complete-only assigned stable v here =
         by-option (final (pathsOf t) (present t) v)
         (λ w. absurd (none-stuck v here w))
-        (λ p e. stable-agrees (pathsOf t) (present t) (shaped t accepted) assigned stable (stageCount (pathsOf t) (present t)) v p e
+        (λ p e. stable-agrees (pathsOf t) (present t) (shaped t accepted) assigned stable
+        (stageCount (pathsOf t) (present t)) v p e
         ∙ sym (reported-settled v p e))

@@ -1,5 +1,5 @@
--- The stages and the rounds: after k times L rounds the vertices that are settled after k stages choose their settled paths for good,
--- from every heard state. L is any number of hops that no path exceeds.
+-- The stages and the rounds: after k times L rounds the vertices that are settled after k stages choose their settled
+-- paths for good, from every heard state. L is any number of hops that no path exceeds.
 use Prim.Native.Nat.{ℕ, zero, suc, _+_, _*_, _<_, _≤_}
 use mathlib.Core.Path.{_≡_, sym, ap, _∙_}
 use mathlib.Core.Logic.{_≢_}
@@ -41,7 +41,9 @@ module _ (paths : ℕ → List Path) (present : ℕ → Bool) (shaped : Shaped p
 
     -- nobody chooses an incompatible path of at most n vertices, from here on
     abbrev Avoids : ℕ → List ℕ → Type 0
-    Avoids n heard = (u : ℕ) (p : Path) → p ≢ [] → length p ≤ n → compatible S p ≡ false → Lasting paths (λ h. choice paths h u ≢ p) heard
+    Avoids n heard =
+        (u : ℕ) (p : Path) → p ≢ [] → length p ≤ n → compatible S p ≡ false → Lasting paths
+        (λ h. choice paths h u ≢ p) heard
 
     -- no incompatible path of at most n vertices is on offer to a vertex that waits, from here on
     abbrev Withdrawn : ℕ → List ℕ → Type 0
@@ -61,10 +63,12 @@ module _ (paths : ℕ → List Path) (present : ℕ → Bool) (shaped : Shaped p
     unfolding bestGiven
     avoids-from n heard holds shut u p ne short bad s r e =
         by-equal u 0
-        (λ z. let q : p ≡ 0 ∷ [] = sym e ∙ ap (choice paths (after paths heard s)) z ∙ choice-destination paths (after paths heard s) in
+        (λ z. let q : p ≡ 0 ∷ [] = sym e ∙ ap (choice paths (after paths heard s)) z ∙ choice-destination paths
+        (after paths heard s) in
         true≢ (origin-compatible present S origin p q) bad)
         (λ z. let now = after paths heard s in
-        let taken = first-taken (extends (lastHeard paths now u)) (paths u) p ne (sym (choice-other paths now u z) ∙ e) in owned (taken .0) (taken .1))
+        let taken = first-taken (extends (lastHeard paths now u)) (paths u) p ne
+        (sym (choice-other paths now u z) ∙ e) in owned (taken .0) (taken .1))
       where
         owned : Stands (paths u) p → extends (lastHeard paths (after paths heard s) u) p ≡ true → ⊥
         owned t offered =
@@ -83,14 +87,17 @@ module _ (paths : ℕ → List Path) (present : ℕ → Bool) (shaped : Shaped p
         → Contains (listeningOffsets paths) n s
         → Withdrawn (suc n) (after paths heard s)
     unfolding extends
-    withdrawn-rounds zero heard s m r holds c v k h w e short t q = absurd (omega (arith, shaped .permitted v k h .long))
+    withdrawn-rounds zero heard s m r holds c v k h w e short t q =
+        absurd (omega (arith, shaped .permitted v k h .long))
     withdrawn-rounds (suc n) heard s m r holds c v k h w e short t q =
         let p = getD (paths v) k [] in
         let permitted = shaped .permitted v k h in
         let shorter = rest-shorter p (omega (arith, permitted .long)) in
-        let unheard = heard-after paths present shaped v (nextHop p) (next-listens paths v k h) n heard s m r c (λ x. x ≢ rest p)
+        let unheard = heard-after paths present shaped v (nextHop p) (next-listens paths v k h) n heard s m r c
+        (λ x. x ≢ rest p)
         (λ before i d. avoids-from (suc n) (after paths heard before) (holds-later heard before i holds)
-        (withdrawn-rounds n heard before m i holds d) (nextHop p) (rest p) (λ x. omega (arith, permitted .long, shorter, ap length x))
+        (withdrawn-rounds n heard before m i holds d) (nextHop p) (rest p)
+        (λ x. omega (arith, permitted .long, shorter, ap length x))
         (omega (arith, shorter)) (sym (compatible-rest present S v p permitted w) ∙ e)) in
         differ (rest p) (lastHeard paths (after paths (after paths heard s) t) v (nextHop p)) (λ x. unheard t q (sym x))
 
@@ -123,7 +130,8 @@ module _ (paths : ℕ → List Path) (present : ℕ → Bool) (shaped : Shaped p
               let k = some-at (λ p. eqb (nextHop p) u) (paths v) [] l in
               absurd (omega (arith, short v (k .0) (k .1), shaped .permitted v (k .0) (k .1) .long))
           offers (suc n) c short u a l e =
-              heard-after paths present shaped v u l n heard s m r c (λ x. x ≡ a) (λ before i d. holds-later heard before i holds u a e) t q
+              heard-after paths present shaped v u l n heard s m r c (λ x. x ≡ a)
+              (λ before i d. holds-later heard before i holds u a e) t q
 
   -- Every vertex settled after k stages chooses its settled path for good, after k times that many rounds.
   module _ (hops : ℕ) (short : Short hops) where
@@ -134,7 +142,8 @@ module _ (paths : ℕ → List Path) (present : ℕ → Bool) (shaped : Shaped p
         → Holds (settled paths present k) (settled-origin paths present k) (after paths heard s)
     stages-hold zero heard s m r c u q e =
         let first = settled-first paths present u q e in
-        λ t i. ap (choice paths (after paths (after paths heard s) t)) (first .0) ∙ choice-destination paths (after paths (after paths heard s) t)
+        λ t i. ap (choice paths (after paths (after paths heard s) t)) (first .0) ∙ choice-destination paths
+        (after paths (after paths heard s) t)
         ∙ sym (first .1)
     stages-hold (suc k) heard s m r c u q e =
         let parts = contains-split (listeningOffsets paths) (k * hops) hops s (rw (suc-mul k hops) at c) in

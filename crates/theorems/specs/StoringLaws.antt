@@ -1,4 +1,5 @@
--- Laws of heard states that hold what is given of each speaker: what is heard and chosen there, and the state that stores an assignment.
+-- Laws of heard states that hold what is given of each speaker: what is heard and chosen there, and the state that
+-- stores an assignment.
 use Prim.Native.Nat.{ℕ, _+_, _*_, _/_, _%_}
 use mathlib.Core.Path.{_≡_, ap, _∙_}
 use mathlib.Core.Logic.{_≢_, _⊎_}
@@ -21,7 +22,8 @@ use Rattle.theorems.specs.Claims.{Valid, Holding, storedByte, storing}
 use Rattle.theorems.specs.EnteringLaws.{next-listens}
 
 module _ (t : List ℕ) (assigned : ℕ → Path) (k : ℕ) where
-  stored-listening : listensAt (pathsOf t) k ≡ true → storedByte t assigned k ≡ byteFor (pathsOf t) (k % 64) (assigned (k % 64))
+  stored-listening : listensAt (pathsOf t) k ≡ true
+      → storedByte t assigned k ≡ byteFor (pathsOf t) (k % 64) (assigned (k % 64))
   unfolding storedByte
   stored-listening e = rw (e, storedByte)
 
@@ -56,7 +58,8 @@ module _ (t : List ℕ) (accepted : refusal t ≡ none) where
   storing-holds assigned v u l =
       let r = vertices v u l in
       tabulate-at (storedByte t assigned) 4096 (64 * v + u) 0 (omega (arith, r .listenerSmall, r .speakerSmall))
-      ∙ stored-listening t assigned (64 * v + u) (offset-listens (pathsOf t) (record { listener = v; speaker = u }) (r .speakerSmall) ∙ l)
+      ∙ stored-listening t assigned (64 * v + u) (offset-listens (pathsOf t) (record { listener = v; speaker = u })
+      (r .speakerSmall) ∙ l)
       ∙ ap (λ (w : ℕ). byteFor (pathsOf t) w (assigned w)) (told-second v u (r .speakerSmall))
 
   pub storing-valid : (assigned : ℕ → Path) → Valid t (storing t assigned)
@@ -70,12 +73,16 @@ module _ (t : List ℕ) (accepted : refusal t ≡ none) where
             (λ k h. rw (tabulate-at (storedByte t assigned) 4096 k 0 (omega (arith, long)))
             (by-test (listensAt paths k)
             (λ q. rw (stored-listening t assigned k q)
-            (byte-good paths k (byteFor paths (k % 64) (assigned (k % 64))) q (place-most (assigned (k % 64)) (speaks paths (k % 64)))))
+            (byte-good paths k (byteFor paths (k % 64) (assigned (k % 64))) q
+            (place-most (assigned (k % 64)) (speaks paths (k % 64)))))
             (λ q. rw (stored-elsewhere t assigned k q) (byte-zero paths k))));
       }
 
   -- and it is the only valid state that holds it
-  pub holding-stored : (heard : List ℕ) (assigned : ℕ → Path) → Valid t heard → Holding t heard assigned → heard ≡ storing t assigned
+  pub holding-stored : (heard : List ℕ) (assigned : ℕ → Path)
+      → Valid t heard
+      → Holding t heard assigned
+      → heard ≡ storing t assigned
   unfolding storing listensAt
   holding-stored heard assigned valid holds =
       let paths = pathsOf t in
@@ -85,4 +92,5 @@ module _ (t : List ℕ) (accepted : refusal t ≡ none) where
       rw (stored-listening t assigned k q) (rw z at (holds (k / 64) (k % 64) q)))
       (λ q. rw (stored-elsewhere t assigned k q)
       (by-equal (getD heard k 0) 0 (λ e. e)
-      (λ e. absurd (true≢ (byte-fits paths k (getD heard k 0) (valid-bytes paths heard (valid .fine) k (omega (arith, valid .long))) e .0) q)))))
+      (λ e. absurd (true≢ (byte-fits paths k (getD heard k 0)
+      (valid-bytes paths heard (valid .fine) k (omega (arith, valid .long))) e .0) q)))))

@@ -3,7 +3,7 @@
 use borrow.Author.Needs.{needs}
 use Rattle.rules.specs.Text.{codes}
 use Rattle.text_writing.specs.LayLaws.{laid-then, laid-as, laid-length}
-use Rattle.check_lines.specs.VerdictLaws.{complete-text, stuck-text, refused-text}
+use Rattle.check_lines.specs.VerdictTextLaws.{complete-text, stuck-text, refused-text}
 use Rattle.check_lines.proofs.print.Statement.{statement}
 use Rattle.check_lines.proofs.print.Tie as tie
 
@@ -49,8 +49,10 @@ unfolding codes
 returns-2 c =
     let lines = c .before .before .before .before .before .before in
     let first = lines .before .before .before .before in
-    laid-as (laid-then (laid-then (first .put-verdict2 .ensures) (lines .put-rows2 .ensures)) (c .before .before .put-ring .ensures))
-    (stuck-text _ _ _ _ _ (first .before .before .before .before .verdict .given .1))
+    let told = first .before .before .before .before in
+    laid-as (laid-then (laid-then (first .put-verdict2 .ensures) (lines .put-rows2 .ensures))
+    (c .before .before .put-ring .ensures))
+    (stuck-text _ _ _ _ _ (told .verdict .given .1))
 
 same-length-2 : tie.Need-same-length-2
 same-length-2 c = laid-length (returns-2 c)
@@ -63,7 +65,9 @@ put-refused-requires c κs = search needs
 
 returns-3 : tie.Need-returns-3
 returns-3 c =
-    laid-as (c .before .before .put-refused .ensures) (refused-text _ _ _ _ _ _ (c .before .before .before .before .before .verdict2 .given .1))
+    let laid = c .before .before in
+    let told = laid .before .before .before in
+    laid-as (laid .put-refused .ensures) (refused-text _ _ _ _ _ _ (told .verdict2 .given .1))
 
 same-length-3 : tie.Need-same-length-3
 same-length-3 c = laid-length (returns-3 c)

@@ -36,7 +36,8 @@ unfolding codes
 returns c =
     let said = c .before .before .before .before .before .before .before in
     let end = said .before .before .before in
-    laid-as (laid-then (laid-then (end .before .before .before .put .ensures) (said .put-spaced .ensures)) (c .before .before .put2 .ensures))
+    laid-as (laid-then (laid-then (end .before .before .before .put .ensures) (said .put-spaced .ensures))
+    (c .before .before .put2 .ensures))
     (ring-part _ _ _ (end .at-most .ensures))
 
 same-length : tie.Need-same-length

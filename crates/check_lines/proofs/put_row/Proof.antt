@@ -41,8 +41,10 @@ returns-2 c =
     let route = c .before .before .before .before .before .before .before in
     let stage = route .before .before .before .before .before .before in
     let number = stage .before .before .before .before in
-    laid-as (laid-then (laid-then (laid-then (number .put-number .ensures) (stage .put-stage .ensures)) (route .put-route .ensures)) (c .before .before .put .ensures))
-    (row-present _ _ _ _ _ (number .before .before .before .byte-at .ensures) (λ e. omega arith) (route .before .before .byte-at2 .ensures) (route .before .path-in .ensures))
+    let staged = laid-then (number .put-number .ensures) (stage .put-stage .ensures) in
+    laid-as (laid-then (laid-then staged (route .put-route .ensures)) (c .before .before .put .ensures))
+    (row-present _ _ _ (number .before .before .before .byte-at .ensures) (λ e. omega arith)
+    (route .before .before .byte-at2 .ensures) (route .before .path-in .ensures))
 
 same-length : tie.Need-same-length
 same-length c = laid-length (returns-2 c)

@@ -34,8 +34,10 @@ loop-less c = omega arith
 
 loop-again : tie.Need-loop-again Inv-loop μ-loop
 loop-again c =
-    let a = c .before .before .before .before .before .before in
-    (omega arith, laid-as (laid-then (a .loop .inv .1) (c .before .before .put-row .ensures)) (rows-more _ _ _ (c .before .before .before .record-at .ensures)))
+    let laid = c .before .before in
+    let row = laid .before in
+    let at-loop = row .before .before .before .loop in
+    (omega arith, laid-as (laid-then (at-loop .inv .1) (laid .put-row .ensures)) (rows-more _ _ _ (row .record-at .ensures)))
 
 same-length : tie.Need-same-length Inv-loop μ-loop
 same-length c = laid-length (c .before .loop .inv .1)

@@ -19,7 +19,10 @@ put-requires c κs = search needs
 
 returns : tie.Need-returns
 unfolding codes
-returns c = laid-as (c .before .before .put .ensures) (stage-stuck _ _ (c .before .before .before .before .before .before .byte-at .ensures) (omega arith))
+returns c =
+    let laid = c .before .before in
+    let stage = laid .before .before .before .before in
+    laid-as (laid .put .ensures) (stage-stuck _ _ (stage .byte-at .ensures) (omega arith))
 
 same-length : tie.Need-same-length
 same-length c = laid-length (returns c)
@@ -35,7 +38,10 @@ put-labelled-requires c κs = search needs
 
 returns-2 : tie.Need-returns-2
 unfolding codes labelled
-returns-2 c = laid-as (c .before .before .put-labelled .ensures) (stage-some _ _ (c .before .before .before .before .before .before .byte-at .ensures) (λ e. omega arith))
+returns-2 c =
+    let laid = c .before .before in
+    let stage = laid .before .before .before .before in
+    laid-as (laid .put-labelled .ensures) (stage-some _ _ (stage .byte-at .ensures) (λ e. omega arith))
 
 same-length-2 : tie.Need-same-length-2
 same-length-2 c = laid-length (returns-2 c)

@@ -19,7 +19,7 @@ array-share-prefix-text c = search needs
 slice-aggregate-write-all : tie.Need-slice-aggregate-write-all
 slice-aggregate-write-all c =
     let r = c .before .before .check-text in
-    sym (length-take-le (r .result) (r .last .1 .0) (omega (arith, r .ensures .1, r .kept .1 .0)))
+    sym (length-take-le (r .result) (r .last .1 .0) (omega (arith, r .ensures .reaches, r .kept .1 .0)))
 
 write-all-requires : tie.Need-write-all-requires
 write-all-requires c κs = search needs

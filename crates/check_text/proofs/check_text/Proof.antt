@@ -1,6 +1,7 @@
 -- `check_text::check_text` meets its contract: what the check's answer prints is the table's text.
 -- Assumes nothing.
 use borrow.Author.Needs.{needs}
+use Rattle.text_writing.specs.LayLaws.{laid-as}
 use Rattle.check_text.specs.PrintedLaws.{printed-check}
 use Rattle.check_text.proofs.check_text.Statement.{statement}
 use Rattle.check_text.proofs.check_text.Tie as tie
@@ -29,7 +30,8 @@ same-length c = search needs
 returns : tie.Need-returns
 returns c =
     let printed = c .before .before in
-    printed-check _ _ _ _ _ _ _ (printed .before .before .before .before .before .before .check .ensures) (printed .print .ensures)
+    let checked = printed .before .before .before .before .before .before in
+    laid-as (printed .print .ensures) (printed-check _ _ _ _ (checked .check .ensures))
 
 pub check-text-spec : {M : Type 1} → statement M
 check-text-spec =

@@ -1,7 +1,7 @@
 -- `probe::probe_present` meets its contract: the mark is the reader's, and past the last mark there is none.
 -- Assumes nothing.
 use borrow.Author.Needs.{needs}
-use Rattle.probe.specs.NumberLaws.{mark-in, mark-past}
+use Rattle.probe.specs.ProbeLaws.{mark-in, mark-past}
 use Rattle.probe.proofs.probe_present.Statement.{statement}
 use Rattle.probe.proofs.probe_present.Tie as tie
 

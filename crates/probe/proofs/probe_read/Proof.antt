@@ -3,7 +3,7 @@
 use mathlib.Core.Path.{sym, _∙_}
 use native.Mathlib.Omega.{arith}
 use borrow.Author.Needs.{needs}
-use Rattle.probe.specs.NumberLaws.{accepted-code, refused-code, refused-small}
+use Rattle.probe.specs.ProbeLaws.{accepted-code, refused-code, refused-small}
 use Rattle.probe.proofs.probe_read.Statement.{statement}
 use Rattle.probe.proofs.probe_read.Tie as tie
 

@@ -2,7 +2,7 @@
 -- Assumes nothing.
 use mathlib.Core.Path.{_∙_}
 use borrow.Author.Needs.{needs}
-use Rattle.probe.specs.NumberLaws.{slot-in, slot-no-vertex, slot-no-rank}
+use Rattle.probe.specs.ProbeLaws.{slot-in, slot-no-vertex, slot-no-rank}
 use Rattle.probe.proofs.probe_slot.Statement.{statement}
 use Rattle.probe.proofs.probe_slot.Tie as tie
 

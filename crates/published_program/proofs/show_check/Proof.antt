@@ -19,7 +19,7 @@ array-share-prefix-text c = search needs
 slice-aggregate-say : tie.Need-slice-aggregate-say
 slice-aggregate-say c =
     let r = c .before .before .check-text in
-    sym (length-take-le (r .result) (r .last .1 .0) (omega (arith, r .ensures .1, r .kept .1 .0)))
+    sym (length-take-le (r .result) (r .last .1 .0) (omega (arith, r .ensures .reaches, r .kept .1 .0)))
 
 say-requires : tie.Need-say-requires
 say-requires c κs = search needs

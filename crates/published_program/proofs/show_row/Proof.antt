@@ -39,7 +39,7 @@ array-share-prefix-text-2 c = search needs
 slice-aggregate-say-2 : tie.Need-slice-aggregate-say-2
 slice-aggregate-say-2 c =
     let r = (c .before .before .before .before) .run-from in
-    sym (length-take-le (r .result) (r .last .1 .1 .1 .0) (omega (arith, r .ensures .0 .reaches, r .kept .1 .1 .1 .0)))
+    sym (length-take-le (r .result) (r .last .1 .1 .1 .0) (omega (arith, r .ensures .lines .reaches, r .kept .1 .1 .1 .0)))
 
 say-requires-2 : tie.Need-say-requires-2
 say-requires-2 c κs = search needs

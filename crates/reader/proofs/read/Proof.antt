@@ -13,7 +13,8 @@ use Rattle.reader.proofs.read.Statement.{statement}
 use Rattle.reader.proofs.read.Tie as tie
 
 abbrev Inv-loop : tie.InvT-loop
-Inv-loop t length count i₀ i = (count ≡ records t) × (i ≤ count) × Orderly t i × (firstFrom (faulty t) i (records t - i) ≡ firstBad t)
+Inv-loop t length count i₀ i =
+    (count ≡ records t) × (i ≤ count) × Orderly t i × (firstFrom (faulty t) i (records t - i) ≡ firstBad t)
 
 abbrev μ-loop : tie.MeasureT-loop
 μ-loop t length count i₀ i = count - i

@@ -36,7 +36,10 @@ part-result-end : tie.Need-part-result-end
 part-result-end c = search needs
 
 returns-2 : tie.Need-returns-2
-returns-2 c = path-part _ _ (c .before .before .before .before .record-at .ensures) _ _ (c .before .before .hops-at .ensures) (c .before .at-most .ensures)
+returns-2 c =
+    let hops = c .before .before in
+    let read = hops .before .before in
+    path-part _ _ (read .record-at .ensures) _ _ (hops .hops-at .ensures) (c .before .at-most .ensures)
 
 pub path-at-spec : {M : Type 1} → statement M
 path-at-spec =

@@ -67,7 +67,8 @@ returns c =
     let downs = last .before .before .before .before .before .before in
     let ups = downs .before .before .before .before .before .before in
     let steps = ups .before .before .before .before .before .before in
-    let moves = laid-then (laid-then (steps .put-labelled .ensures) (ups .put-labelled2 .ensures)) (downs .put-labelled3 .ensures) in
+    let moves = laid-then (laid-then (steps .put-labelled .ensures) (ups .put-labelled2 .ensures))
+    (downs .put-labelled3 .ensures) in
     let all = laid-then (laid-then moves (last .put-labelled4 .ensures)) (rounds .put-labelled5 .ensures) in
     laid-then all (c .before .before .put .ensures)
 

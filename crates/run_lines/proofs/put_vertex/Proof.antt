@@ -37,7 +37,8 @@ returns c =
     let sum = route .before .before .before .before in
     let word = sum .before .before .before .before in
     let number = word .before .before .before .before .before in
-    let said = laid-as (sum .put-signed .ensures) (ap signed (toZ-ofZ (number .before .before .before .before .fits .sum))) in
+    let start = number .before .before .before .before in
+    let said = laid-as (sum .put-signed .ensures) (ap signed (toZ-ofZ (start .fits .sum))) in
     let summed = laid-then (laid-then (number .put-number .ensures) (word .put .ensures)) said in
     laid-then (laid-then summed (route .put-route .ensures)) (c .before .before .put2 .ensures)
 

@@ -42,8 +42,11 @@ loop-less c = omega arith
 loop-again : tie.Need-loop-again Inv-loop μ-loop
 loop-again c =
     let a = c .before .before in
-    let named = a .before .before in
-    (omega arith, laid-as (a .loop .inv .1) (shown-absent _ _ _ _ _ (named .present-in .ensures) (omega arith) _ (not-true _ (c .if1 .taken))))
+    let named = a .before .before in (
+      omega arith,
+      laid-as (a .loop .inv .1) (shown-absent _ _ _ (named .present-in .ensures) (omega arith) _
+          (not-true _ (c .if1 .taken))),
+    )
 
 byte-at-requires : tie.Need-byte-at-requires Inv-loop μ-loop
 byte-at-requires c κs = omega arith
@@ -82,9 +85,11 @@ loop-again-2 c =
     let slots = a .before in (
       omega arith,
       laid-as (laid-then (a .loop .inv .1) (c .before .before .put-vertex .ensures))
-          (shown-present _ _ _ _ _ (slots .before .present-in .ensures) (omega arith) _ _ _ _ _ _ _
-          (not-false _ (test .if1 .left)) (slots .slots-of .ensures) refl (rank .byte-at .ensures) (slot .ranked-record .ensures)
-          (toZ-ofZ {w = w32} (record { sfits = route .before .sum-at .ok }) ∙ route .before .sum-at .ensures) (route .path-at .ensures)),
+          (shown-present _ _ _ (slots .before .present-in .ensures) (omega arith) _
+          (not-false _ (test .if1 .left)) (slots .slots-of .ensures) refl (rank .byte-at .ensures)
+          (slot .ranked-record .ensures)
+          (toZ-ofZ {w = w32} (record { sfits = route .before .sum-at .ok }) ∙ route .before .sum-at .ensures)
+          (route .path-at .ensures)),
     )
 
 same-length : tie.Need-same-length Inv-loop μ-loop

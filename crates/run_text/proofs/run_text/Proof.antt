@@ -1,7 +1,8 @@
 -- `run_text::run_text` meets its contract: what the run's answer prints is the text of the run from zeros.
 -- Assumes nothing.
 use borrow.Author.Needs.{needs}
-use Rattle.run_text.specs.RanLaws.{printed-run}
+use Rattle.text_writing.specs.LayLaws.{laid-as}
+use Rattle.run_text.specs.PrintedRunLaws.{printed-from-zeros}
 use Rattle.run_text.proofs.run_text.Statement.{statement}
 use Rattle.run_text.proofs.run_text.Tie as tie
 
@@ -36,10 +37,8 @@ returns : tie.Need-returns
 returns c =
     let printed = c .before .before in
     let chosen = printed .before .before .before .before in
-    let ran = (chosen .before .before .before .before .run) .ensures in
-    printed-run _ _ _ _ _ _ _ _ _
-    (record { refused = ran .0; numbers = ran .1 .0; state = ran .1 .1 .0; added = ran .1 .1 .1; choices = chosen .choices .ensures })
-    (printed .print-run .ensures)
+    let ran = chosen .before .before .before .before in
+    laid-as (printed .print-run .ensures) (printed-from-zeros _ _ _ _ _ _ (ran .run .ensures) (chosen .choices .ensures))
 
 pub run-text-spec : {M : Type 1} → statement M
 run-text-spec =

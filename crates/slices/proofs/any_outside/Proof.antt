@@ -27,8 +27,9 @@ is-outside-requires c κs = search needs
 
 returns : tie.Need-returns Inv-loop μ-loop
 returns c =
-    let a = c .before .before .before .before in
-    scan-hit _ _ 0 (a .loop .i) (a .loop .inv .1) (c .before .before .before .loop-test .taken)
+    let in-loop = c .before .before .before in
+    let at-loop = in-loop .before .loop in
+    scan-hit _ _ 0 (at-loop .i) (at-loop .inv .1) (in-loop .loop-test .taken)
     (sym (c .before .is-outside .ensures) ∙ c .if1 .taken)
 
 add-i : tie.Need-add-i Inv-loop μ-loop
@@ -39,9 +40,10 @@ loop-less c = omega arith
 
 loop-again : tie.Need-loop-again Inv-loop μ-loop
 loop-again c =
-    let a = c .before .before .before .before in (
+    let in-loop = c .before .before .before in
+    let at-loop = in-loop .before .loop in (
       omega arith,
-      scan-next _ _ 0 (a .loop .i) (a .loop .inv .1) (c .before .before .before .loop-test .taken)
+      scan-next _ _ 0 (at-loop .i) (at-loop .inv .1) (in-loop .loop-test .taken)
           (sym (c .before .is-outside .ensures) ∙ c .if1 .left),
     )
 

@@ -11,7 +11,8 @@ use Rattle.slices.proofs.mark_all.Statement.{statement}
 use Rattle.slices.proofs.mark_all.Tie as tie
 
 abbrev Inv-loop : tie.InvT-loop
-Inv-loop marks₀ path k₀ marks k = (k ≤ length path) × (length marks ≡ length marks₀) × (marked marks (drop k path) ≡ marked marks₀ path)
+Inv-loop marks₀ path k₀ marks k =
+    (k ≤ length path) × (length marks ≡ length marks₀) × (marked marks (drop k path) ≡ marked marks₀ path)
 
 abbrev μ-loop : tie.MeasureT-loop
 μ-loop marks₀ path k₀ marks k = length path - k
@@ -36,12 +37,12 @@ loop-less c = omega arith
 
 loop-again : tie.Need-loop-again Inv-loop μ-loop
 loop-again c =
-    let a = c .before .before .before .before .before .before in
+    let in-loop = c .before .before .before .before .before in
+    let at-loop = in-loop .before .loop in
     let m = c .before .before .mark in (
       omega arith,
-      m .kept .0 ∙ a .loop .inv .1,
-      marked-next _ _ (a .loop .k) _ _ (m .ensures)
-          (c .before .before .before .before .before .loop-test .taken) (a .loop .inv .2),
+      m .kept .0 ∙ at-loop .inv .1,
+      marked-next _ _ (at-loop .k) _ _ (m .ensures) (in-loop .loop-test .taken) (at-loop .inv .2),
     )
 
 same-length : tie.Need-same-length Inv-loop μ-loop

@@ -29,8 +29,9 @@ shared-slice-read-if2-2 c = omega arith
 
 returns-2 : tie.Need-returns-2 Inv-loop μ-loop
 returns-2 c =
-    let a = c .before .before .before .before in
-    same-hit _ _ (a .loop .i) (a .loop .inv .2) (a .loop .inv .1) (c .before .before .before .loop-test .taken) (c .if2 .taken)
+    let in-loop = c .before .before .before in
+    let at-loop = in-loop .before .loop in
+    same-hit _ _ (at-loop .i) (at-loop .inv .2) (at-loop .inv .1) (in-loop .loop-test .taken) (c .if2 .taken)
 
 add-i : tie.Need-add-i Inv-loop μ-loop
 add-i c = omega arith
@@ -40,11 +41,11 @@ loop-less c = omega arith
 
 loop-again : tie.Need-loop-again Inv-loop μ-loop
 loop-again c =
-    let a = c .before .before .before .before in (
+    let in-loop = c .before .before .before in
+    let at-loop = in-loop .before .loop in (
       omega arith,
-      a .loop .inv .1,
-      same-next _ _ (a .loop .i) (a .loop .inv .2) (a .loop .inv .1)
-          (c .before .before .before .loop-test .taken) (c .if2 .left),
+      at-loop .inv .1,
+      same-next _ _ (at-loop .i) (at-loop .inv .2) (at-loop .inv .1) (in-loop .loop-test .taken) (c .if2 .left),
     )
 
 returns-3 : tie.Need-returns-3 Inv-loop μ-loop

@@ -42,10 +42,11 @@ loop-less c = omega arith
 
 loop-again : tie.Need-loop-again Inv-loop μ-loop
 loop-again c =
-    let a = c .before .before .before .before .before .before in
-    let more = pairs-more _ _ _ _ _ (a .loop .inv .2) (c .before .before .before .owner-at .ensures)
-    (c .before .before .next-at .ensures) in
-    (a .loop .inv .0, omega arith, c .before .mark-pair .ensures ∙ more)
+    let next = c .before .before in
+    let owner = next .before in
+    let at-loop = owner .before .before .before .loop in
+    let more = pairs-more _ _ (at-loop .inv .2) (owner .owner-at .ensures) (next .next-at .ensures) in
+    (at-loop .inv .0, omega arith, c .before .mark-pair .ensures ∙ more)
 
 returns : tie.Need-returns Inv-loop μ-loop
 returns c = pairs-all _ _ _ (omega arith) (c .before .loop .inv .2)

@@ -36,13 +36,13 @@ loop-less c = omega arith
 loop-again : tie.Need-loop-again Inv-loop μ-loop
 loop-again c =
     let a = c .before .before .before in
-    (a .loop .inv .0, omega arith, hops-more _ _ _ _ _ (a .loop .inv .2) (c .before .hops-at .ensures) (c .larger .ensures))
+    (a .loop .inv .0, omega arith, hops-more _ _ (a .loop .inv .2) (c .before .hops-at .ensures) (c .larger .ensures))
 
 returns : tie.Need-returns Inv-loop μ-loop
 unfolding longest
 returns c =
     let a = c .before in
-    let e : a .loop .i ≡ records (a .before .before .args .t .now) = omega arith in
+    let e : a .loop .i ≡ records (a .before .before .args .table .now) = omega arith in
     rw (← e) (a .loop .inv .2)
 
 pub longest-hops-spec : {M : Type 1} → statement M

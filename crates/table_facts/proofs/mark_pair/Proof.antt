@@ -21,7 +21,9 @@ same-length : tie.Need-same-length
 same-length c = search needs
 
 returns-2 : tie.Need-returns-2
-returns-2 c = pair-store _ _ _ _ (c .before .before .before .before .if1 .left) (c .before .before .mark .ensures)
+returns-2 c =
+    let stored = c .before .before in
+    pair-store _ _ _ _ (stored .before .before .if1 .left) (stored .mark .ensures)
 
 pub mark-pair-spec : {M : Type 1} → statement M
 mark-pair-spec = tie.close (tie.spec returns mul-at add-at mark-requires same-length returns-2)

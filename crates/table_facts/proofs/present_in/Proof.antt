@@ -42,11 +42,11 @@ loop-less c = omega arith
 
 loop-again : tie.Need-loop-again Inv-loop μ-loop
 loop-again c =
-    let a = c .before .before .before .before .before in (
-      a .loop .inv .0,
+    let path = c .before .before in
+    let at-loop = path .before .before .before .loop in (
+      at-loop .inv .0,
       omega arith,
-      c .before .mark-all .ensures
-          ∙ names-more _ _ _ _ (a .loop .inv .2) (c .before .before .path-at .ensures),
+      c .before .mark-all .ensures ∙ names-more _ _ (at-loop .inv .2) (path .path-at .ensures),
     )
 
 returns : tie.Need-returns Inv-loop μ-loop

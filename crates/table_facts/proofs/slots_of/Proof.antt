@@ -37,7 +37,7 @@ loop-less c = omega arith
 loop-again : tie.Need-loop-again Inv-loop μ-loop
 loop-again c =
     let a = c .before .before .before in
-    (a .loop .inv .0, omega arith, slots-skip _ _ _ _ (a .loop .inv .2) (omega arith))
+    (a .loop .inv .0, omega arith, slots-skip (a .loop .inv .2) (omega arith))
 
 mul-k : tie.Need-mul-k Inv-loop μ-loop
 mul-k c = omega arith
@@ -50,11 +50,11 @@ loop-less-2 c = omega arith
 
 loop-again-2 : tie.Need-loop-again-2 Inv-loop μ-loop
 loop-again-2 c =
-    let a = c .before .before .before .before in (
-      a .loop .inv .0,
+    let owner = c .before .before in
+    let at-loop = owner .before .before .loop in (
+      at-loop .inv .0,
       omega arith,
-      slots-full _ _ _ _ (a .loop .inv .2) _
-          (c .before .before .owner-at .ensures) (c .before .if1 .left) (c .if2 .taken),
+      slots-full (at-loop .inv .2) (owner .owner-at .ensures) (c .before .if1 .left) (c .if2 .taken),
     )
 
 cast-slots : tie.Need-cast-slots Inv-loop μ-loop
@@ -86,17 +86,17 @@ loop-less-3 c = omega arith
 
 loop-again-3 : tie.Need-loop-again-3 Inv-loop μ-loop
 loop-again-3 c =
-    let a = c .before .before .before .before in (
-      a .loop .inv .0,
+    let owner = c .before .before in
+    let at-loop = owner .before .before .loop in (
+      at-loop .inv .0,
       omega arith,
-      slots-store _ _ _ _ (a .loop .inv .2) _
-          (c .before .before .owner-at .ensures) (c .before .if1 .left) _ refl (c .if2 .left),
+      slots-store (at-loop .inv .2) (owner .owner-at .ensures) (c .before .if1 .left) refl (c .if2 .left),
     )
 
 returns : tie.Need-returns Inv-loop μ-loop
 returns c =
     let a = c .before in
-    let e : a .loop .i ≡ min (records (a .before .before .before .args .t .now)) 1008 = omega arith in
+    let e : a .loop .i ≡ min (records (a .before .before .before .args .table .now)) 1008 = omega arith in
     rw (← e) (a .loop .inv .2 .filled)
 
 pub slots-of-spec : {M : Type 1} → statement M

@@ -12,7 +12,10 @@ put-number-requires : tie.Need-put-number-requires
 put-number-requires c κs = search needs
 
 returns : tie.Need-returns
-returns c = laid-then (c .before .before .before .before .before .before .put .ensures) (c .before .before .put-number .ensures)
+returns c =
+    let number = c .before .before in
+    let word = number .before .before .before .before in
+    laid-then (word .put .ensures) (number .put-number .ensures)
 
 same-length : tie.Need-same-length
 same-length c = laid-length (returns c)

@@ -32,8 +32,9 @@ same-length c = search needs
 returns : tie.Need-returns
 unfolding decimal
 returns c =
-    let w = c .before .before .before .before .before .before .before .write-digits in
-    laid-as (c .before .before .put .ensures) (written-part (w .ensures) 10 refl (w .kept .0))
+    let laid = c .before .before in
+    let written = laid .before .before .before .before .before .write-digits in
+    laid-as (laid .put .ensures) (written-part (written .ensures) 10 refl (written .kept .0))
 
 pub put-number-spec : {M : Type 1} → statement M
 put-number-spec =

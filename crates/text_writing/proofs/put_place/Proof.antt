@@ -17,7 +17,9 @@ put-labelled-requires c κs = search needs
 
 returns : tie.Need-returns
 unfolding codes labelled
-returns c = laid-as (c .before .before .put-labelled .ensures) (place-offset _ _ (c .before .before .before .before .before .match .keys1))
+returns c =
+    let laid = c .before .before in
+    laid-as (laid .put-labelled .ensures) (place-offset _ _ (laid .before .before .before .match .keys1))
 
 same-length : tie.Need-same-length
 same-length c = laid-length (returns c)
@@ -30,7 +32,9 @@ put-labelled-requires-2 c κs = search needs
 
 returns-2 : tie.Need-returns-2
 unfolding codes labelled
-returns-2 c = laid-as (c .before .before .put-labelled2 .ensures) (place-pair _ _ (c .before .before .before .before .before .match .keys2))
+returns-2 c =
+    let laid = c .before .before in
+    laid-as (laid .put-labelled2 .ensures) (place-pair _ _ (laid .before .before .before .match .keys2))
 
 same-length-2 : tie.Need-same-length-2
 same-length-2 c = laid-length (returns-2 c)
@@ -43,7 +47,9 @@ put-labelled-requires-3 c κs = search needs
 
 returns-3 : tie.Need-returns-3
 unfolding codes labelled
-returns-3 c = laid-as (c .before .before .put-labelled3 .ensures) (place-record _ _ (is-inside 4 11 _ (omega arith) (omega arith)))
+returns-3 c =
+    laid-as (c .before .before .put-labelled3 .ensures)
+    (place-record _ _ (is-inside 4 11 _ (omega arith) (omega arith)))
 
 same-length-3 : tie.Need-same-length-3
 same-length-3 c = laid-length (returns-3 c)
@@ -52,7 +58,9 @@ returns-4 : tie.Need-returns-4
 returns-4 c = laid-as (laid-nothing _ _) (place-none _ _ (below-out 4 11 _ (omega arith)) (λ e. omega arith) (λ e. omega arith))
 
 returns-5 : tie.Need-returns-5
-returns-5 c = laid-as (laid-nothing _ _) (place-none _ _ (above-out 4 11 _ (omega arith)) (c .before .before .match .rest .0 .1) (c .before .before .match .rest .1))
+returns-5 c =
+    let others = c .before .before .match .rest in
+    laid-as (laid-nothing _ _) (place-none _ _ (above-out 4 11 _ (omega arith)) (others .0 .1) (others .1))
 
 pub put-place-spec : {M : Type 1} → statement M
 put-place-spec =

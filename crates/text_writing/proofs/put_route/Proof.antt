@@ -41,7 +41,8 @@ unfolding codes labelled
 returns-2 c =
     let routed = c .before .before .before .before .before .before in
     let ranked = routed .before .before .before .before .before in
-    laid-as (laid-then (laid-then (ranked .put-labelled .ensures) (routed .put2 .ensures)) (c .before .before .put-spaced .ensures))
+    laid-as (laid-then (laid-then (ranked .put-labelled .ensures) (routed .put2 .ensures))
+    (c .before .before .put-spaced .ensures))
     (route-some _ _ (λ e. omega arith))
 
 same-length-2 : tie.Need-same-length-2

@@ -3,7 +3,7 @@
 use borrow.Author.Needs.{needs}
 use Rattle.rules.specs.Text.{codes}
 use Rattle.text_writing.specs.LayLaws.{laid-then, laid-as, laid-length}
-use Rattle.text_writing.specs.SignedLaws.{signed-plain, signed-below}
+use Rattle.text_writing.specs.SignedLetterLaws.{signed-plain, signed-below}
 use Rattle.text_writing.proofs.put_signed.Statement.{statement}
 use Rattle.text_writing.proofs.put_signed.Tie as tie
 
@@ -16,8 +16,9 @@ put-number-requires c κs = search needs
 returns : tie.Need-returns
 returns c =
     let sized = c .before .before .before in
+    let test = sized .before .before in
     laid-as (c .before .before .put-number .ensures)
-    (signed-plain _ _ (sized .before .before .before .before .fits .n) (sized .size-of .ensures) (sized .before .before .if1 .taken))
+    (signed-plain _ _ (test .before .before .fits .n) (sized .size-of .ensures) (test .if1 .taken))
 
 same-length : tie.Need-same-length
 same-length c = laid-length (returns c)
@@ -39,8 +40,9 @@ unfolding codes
 returns-2 c =
     let sized = c .before .before .before in
     let sign = sized .before .before .before .before in
+    let test = sign .before .before .before in
     laid-as (laid-then (sign .put .ensures) (c .before .before .put-number2 .ensures))
-    (signed-below _ _ (sign .before .before .before .before .before .fits .n) (sized .size-of2 .ensures) (sign .before .before .before .if1 .left))
+    (signed-below _ _ (test .before .before .fits .n) (sized .size-of2 .ensures) (test .if1 .left))
 
 same-length-2 : tie.Need-same-length-2
 same-length-2 c = laid-length (returns-2 c)

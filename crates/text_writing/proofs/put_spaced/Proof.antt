@@ -29,7 +29,9 @@ shared-slice-read-put-labelled : tie.Need-shared-slice-read-put-labelled Inv-loo
 shared-slice-read-put-labelled c = omega arith
 
 cast-put-labelled : tie.Need-cast-put-labelled Inv-loop μ-loop
-cast-put-labelled c = omega (arith, c .shared-slice-known2 .given (c .before .before .before .before .loop .k))
+cast-put-labelled c =
+    let at-loop = c .before .before .before .before .loop in
+    omega (arith, c .shared-slice-known2 .given (at-loop .k))
 
 put-labelled-requires : tie.Need-put-labelled-requires Inv-loop μ-loop
 put-labelled-requires c κs = search needs
@@ -43,9 +45,11 @@ loop-less c = omega arith
 loop-again : tie.Need-loop-again Inv-loop μ-loop
 unfolding codes labelled
 loop-again c =
-    let a = c .before .before .before .before .before .before .before in
-    let more = laid-then (a .loop .inv .1) (c .before .before .put-labelled .ensures) in
-    (omega arith, laid-as more (spaced-more _ (a .loop .k) (c .before .before .before .before .before .before .loop-test .taken)))
+    let laid = c .before .before in
+    let in-loop = laid .before .before .before .before in
+    let at-loop = in-loop .before .loop in
+    let more = laid-then (at-loop .inv .1) (laid .put-labelled .ensures) in
+    (omega arith, laid-as more (spaced-more _ (at-loop .k) (in-loop .loop-test .taken)))
 
 same-length : tie.Need-same-length Inv-loop μ-loop
 same-length c = laid-length (c .before .loop .inv .1)

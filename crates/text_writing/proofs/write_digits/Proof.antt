@@ -1,5 +1,5 @@
--- `text_writing::write_digits` meets its contract: what is left to write before the place at, and what stands from there on, are the digits.
--- Assumes nothing.
+-- `text_writing::write_digits` meets its contract: what is left to write before the place at, and what stands from
+-- there on, are the digits. Assumes nothing.
 use native.Mathlib.Omega.{arith}
 use lib.ListN.{length-set}
 use Rattle.text_writing.specs.DigitLaws.{Writing, writing-start, writing-more, writing-last, writing-full}

@@ -30,8 +30,9 @@ part-result-end c = search needs
 
 returns-2 : tie.Need-returns-2
 returns-2 c =
-    let a = (c .before .before .before .before) .args in
-    part-here (a .bytes .now) (a .from) (a .count) _ (c .before .before .if1 .left) (c .before .at-most .ensures)
+    let test = c .before .before in
+    let a = (test .before .before) .args in
+    part-here (a .bytes .now) (a .from) (a .count) _ (test .if1 .left) (c .before .at-most .ensures)
 
 pub part-spec : {M : Type 1} → statement M
 part-spec =

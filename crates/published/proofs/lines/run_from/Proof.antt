@@ -2,7 +2,7 @@
 -- Assumes nothing.
 use borrow.Author.Needs.{needs}
 use Rattle.text_writing.specs.LayLaws.{laid-as}
-use Rattle.run_text.specs.RanLaws.{text-is}
+use Rattle.run_text.specs.PrintedRunLaws.{printed-run}
 use Rattle.published.proofs.lines.run_from.Statement.{statement}
 use Rattle.published.proofs.lines.run_from.Tie as tie
 
@@ -34,12 +34,11 @@ returns : tie.Need-returns
 returns c =
     let printed = c .before .before in
     let chosen = printed .before .before .before .before in
-    let ran = (chosen .before .before .before .before .before .run) .ensures in (
-      laid-as (printed .print-run .ensures)
-          (text-is _ _ _ _ _ _ _ _
-          (record { refused = ran .0; numbers = ran .1 .0; state = ran .1 .1 .0; added = ran .1 .1 .1; choices = chosen .choices .ensures })),
-      ran .1 .1 .0,
-    )
+    let ran = (chosen .before .before .before .before .before) .run .ensures in
+    record {
+      lines = laid-as (printed .print-run .ensures) (printed-run _ _ _ _ _ _ _ _ ran (chosen .choices .ensures));
+      state = ran .1 .1 .0;
+    }
 
 pub run-from-spec : {M : Type 1} → statement M
 run-from-spec =

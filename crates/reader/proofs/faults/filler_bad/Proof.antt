@@ -27,7 +27,9 @@ part-any-outside-start : tie.Need-part-any-outside-start
 part-any-outside-start c = omega arith
 
 part-any-outside-end : tie.Need-part-any-outside-end
-part-any-outside-end c = omega (arith, ap length (c .before .record-at .ensures), record-length _ _ (c .before .before .before .pre .0))
+part-any-outside-end c =
+    let read = c .before in
+    omega (arith, ap length (read .record-at .ensures), record-length _ _ (read .before .before .pre .0))
 
 any-outside-requires : tie.Need-any-outside-requires
 any-outside-requires c κs = search needs
@@ -35,22 +37,26 @@ any-outside-requires c κs = search needs
 returns : tie.Need-returns
 returns c =
     let k = c .before .before .before in
-    filler-hit _ _ _ _ (k .before .record-at .ensures) (k .hops-at .ensures) (c .before .any-outside .ensures) (c .if1 .taken)
+    filler-hit (k .before .record-at .ensures) (k .hops-at .ensures) (c .before .any-outside .ensures) (c .if1 .taken)
 
 shared-slice-read-is-outside : tie.Need-shared-slice-read-is-outside
 shared-slice-read-is-outside c =
-    let k = c .before .before .before .before .before in
-    omega (arith, ap length (k .record-at .ensures), record-length _ _ (k .before .before .pre .0))
+    let test = c .before in
+    let read = test .before .before .before .before in
+    omega (arith, ap length (read .record-at .ensures), record-length _ _ (read .before .before .pre .0))
 
 is-outside-requires : tie.Need-is-outside-requires
 is-outside-requires c κs = search needs
 
 returns-2 : tie.Need-returns-2
 returns-2 c =
-    let k = c .before .before .before .before .before in
-    filler-rest _ _ _ _ (k .before .record-at .ensures) (k .hops-at .ensures) (c .before .before .before .any-outside .ensures) _ (c .before .before .if1 .left) (c .is-outside .ensures)
+    let test = c .before .before in
+    let hops = test .before .before .before in
+    filler-rest (hops .before .record-at .ensures) (hops .hops-at .ensures) (test .before .any-outside .ensures)
+    (test .if1 .left) (c .is-outside .ensures)
 
 pub filler-bad-spec : {M : Type 1} → statement M
 filler-bad-spec =
     tie.close
-    (tie.spec record-at-requires hops-at-requires cast-from add-from sub-any-outside part-any-outside-start part-any-outside-end any-outside-requires returns shared-slice-read-is-outside is-outside-requires returns-2)
+    (tie.spec record-at-requires hops-at-requires cast-from add-from sub-any-outside part-any-outside-start
+    part-any-outside-end any-outside-requires returns shared-slice-read-is-outside is-outside-requires returns-2)

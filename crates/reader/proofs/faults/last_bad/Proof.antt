@@ -24,7 +24,9 @@ is-outside-requires : tie.Need-is-outside-requires
 is-outside-requires c κs = search needs
 
 returns : tie.Need-returns
-returns c = last-seen _ _ _ _ _ (c .before .before .record-at .ensures) (c .before .before .before .hops-at .ensures) (c .before .byte-at .ensures) (c .is-outside .ensures)
+returns c =
+    last-seen (c .before .before .record-at .ensures) (c .before .before .before .hops-at .ensures)
+    (c .before .byte-at .ensures) (c .is-outside .ensures)
 
 pub last-bad-spec : {M : Type 1} → statement M
 last-bad-spec =

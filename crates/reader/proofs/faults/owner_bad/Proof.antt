@@ -20,7 +20,7 @@ owner-at-requires-2 : tie.Need-owner-at-requires-2
 owner-at-requires-2 c κs = search needs
 
 returns-2 : tie.Need-returns-2
-returns-2 c = owner-bad-later _ _ _ _ (c .before .before .if1 .left) (c .before .owner-at .ensures) (c .owner-at2 .ensures)
+returns-2 c = owner-bad-later _ _ (c .before .before .if1 .left) (c .before .owner-at .ensures) (c .owner-at2 .ensures)
 
 pub owner-bad-spec : {M : Type 1} → statement M
 owner-bad-spec = tie.close (tie.spec returns owner-at-requires sub-owner-at owner-at-requires-2 returns-2)

@@ -22,7 +22,7 @@ owner-at-requires-2 c κs = search needs
 returns-2 : tie.Need-returns-2
 returns-2 c =
     let o = c .before in
-    rank-due-new _ _ _ _ (o .before .before .if1 .left) (o .before .owner-at .ensures) (o .owner-at2 .ensures) (c .if2 .taken)
+    rank-due-new _ _ (o .before .before .if1 .left) (o .before .owner-at .ensures) (o .owner-at2 .ensures) (c .if2 .taken)
 
 sub-rank-at : tie.Need-sub-rank-at
 sub-rank-at c = search needs
@@ -39,7 +39,8 @@ add-result c = search needs
 returns-3 : tie.Need-returns-3
 returns-3 c =
     let o = c .before .before in
-    rank-due-same _ _ _ _ (o .before .before .if1 .left) (o .before .owner-at .ensures) (o .owner-at2 .ensures) _ (c .before .if2 .left) (c .rank-at .ensures)
+    rank-due-same _ _ (o .before .before .if1 .left) (o .before .owner-at .ensures) (o .owner-at2 .ensures)
+    (c .before .if2 .left) (c .rank-at .ensures)
 
 pub rank-due-spec : {M : Type 1} → statement M
 rank-due-spec =

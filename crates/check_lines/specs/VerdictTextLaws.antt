@@ -8,7 +8,8 @@ use Rattle.answer.specs.declared.Verdict.the-variants.{Complete, Stuck, Refused
 use Rattle.answer.specs.Meaning.{meaning}
 
 module _ (v : Verdict) (numbers rows ring : List ℕ) where
-  pub complete-text : v ≡ Complete → verdictLine (codes "complete") numbers ++ rowLines rows 63 ≡ textOf (meaning v) numbers rows ring
+  pub complete-text : v ≡ Complete
+      → verdictLine (codes "complete") numbers ++ rowLines rows 63 ≡ textOf (meaning v) numbers rows ring
   unfolding textOf meaning
   complete-text e = rw e
 

@@ -2,9 +2,8 @@
 use mathlib.Core.Path.{_≡_, refl, sym, ap, _∙_}
 use mathlib.Core.Bool.{Bool, true, false, cond}
 use mathlib.Core.List.{List, []}
-use mathlib.Core.Option.{Option, none, some}
+use mathlib.Core.Option.{Option}
 use Prim.Native.Nat.{ℕ, _+_, _*_, _<_, _≤_}
-use native.Mathlib.Omega.{arith}
 use lib.ListN.{length, getD, List·getD-eq-default}
 use mir.Val.{boolByte}
 use borrow.Author.Tests.{lt-ltb, le-ltb}
@@ -15,29 +14,23 @@ use Rattle.rules.specs.Table.{slotsOf}
 use Rattle.rules.specs.Refusals.{Refusal, refusal}
 use Rattle.laws.specs.Accepted.{told}
 use Rattle.reader.specs.Reading.{readingOf}
+use Rattle.reader.specs.ReadingLaws.{reading-accepted, reading-refused}
 use Rattle.reader.specs.declared.Reading.the-variants.{Accepted, Refused}
 use Rattle.rules.specs.Entries.{codeOf}
 use Rattle.probe.specs.Numbers.{markOf, slotsIn, slotAt}
 
 -- what the reader's answer says of the code
 pub accepted-code : (o : Option Refusal) → Accepted ≡ readingOf o → 0 ≡ codeOf o
-unfolding readingOf codeOf
-accepted-code none e = refl
-accepted-code (some r) e = absurd (let z : _≡_ {A = ℕ} 0 1 = cc in omega arith)
+unfolding codeOf
+accepted-code o e = rw (reading-accepted o e)
 
 module _ (n k : ℕ) where
   pub refused-code : (o : Option Refusal) → Refused n k ≡ readingOf o → n + 256 * k ≡ codeOf o
-  unfolding readingOf codeOf
-  refused-code none e = absurd (let z : _≡_ {A = ℕ} 0 1 = cc in omega arith)
-  refused-code (some r) e = cc
-
-  refused-place : (t : List ℕ) (o : Option Refusal) → refusal t ≡ o → Refused n k ≡ readingOf o → k < 1008
-  unfolding readingOf
-  refused-place t none q e = absurd (let z : _≡_ {A = ℕ} 0 1 = cc in omega arith)
-  refused-place t (some r) q e = let p : k ≡ r .place = cc in omega (arith, told t r q .place)
+  unfolding codeOf
+  refused-code o e = rw (reading-refused n k o e)
 
   pub refused-small : (t : List ℕ) → Refused n k ≡ readingOf (refusal t) → k < 1008
-  refused-small t e = refused-place t (refusal t) refl e
+  refused-small t e = told t _ (reading-refused n k (refusal t) e) .place
 
 -- a mark read from the marks of the numbers below n, and past their end
 module _ (test : ℕ → Bool) (n i : ℕ) where

@@ -1,2 +1,0 @@
--- Laws of the contracts.
-pub mod OneResult
