@@ -27,7 +27,7 @@ use Rattle.laws.specs.AnswerLaws.{run-admitted}
 use Rattle.answer.specs.declared.RunAnswer.{RunAnswer}
 use Rattle.text_writing.specs.Lay.{Laid}
 use Rattle.text_writing.specs.LayLaws.{laid-fits}
-use Rattle.machine.specs.Ran.{Ran}
+use Rattle.runner.specs.Ran.{Ran}
 use Rattle.run_lines.specs.Shown.{rankedRecord, shownLine, shownLines, runAnswerText}
 
 -- an accepted table
@@ -83,27 +83,26 @@ unfolding unless
 accepted-new o new old e = rw e
 
 -- what the answer prints is the text of the run, where the choices are those of the state that it leaves
-pub printed-run : (t heard s heardAfter chosen : List ℕ) (sums sumsAfter : List ℤ) (a : RunAnswer)
+pub printed-run : {t heard s heardAfter chosen : List ℕ} {sums sumsAfter : List ℤ} {a : RunAnswer}
     → Ran t heard s sums a heardAfter sumsAfter
     → chosen ≡ choicesIn t heardAfter
     → runAnswerText a t chosen sumsAfter ≡ runText t heard s sums
 unfolding runText runNumbers heardAfterRun sumsAfterRun choicesIn
-printed-run t heard s heardAfter chosen sums sumsAfter a (refused, (numbers, (state, added))) choices =
+printed-run {t} {heard} {s} {heardAfter} {chosen} {sums} {sumsAfter} {a} ran choices =
     by-option (runRefusal t heard s sums)
     (λ e. let ok = run-admitted t heard s sums e .accepted in
-    let chose = choices ∙ accepted-new (refusal t) _ _ ok ∙ ap (choiceBytes (pathsOf t)) (state ∙ accepted-new _ _ _ e) in
-    rw (refused, numbers ∙ accepted-new _ _ _ e, added ∙ accepted-new _ _ _ e, chose)
+    let chose = choices ∙ accepted-new (refusal t) _ _ ok ∙ ap (choiceBytes (pathsOf t)) (ran .heard ∙ accepted-new _ _ _ e) in
+    rw (ran .refusal, ran .numbers ∙ accepted-new _ _ _ e, ran .sums ∙ accepted-new _ _ _ e, chose)
     (ap (runTextOf (runRefusal t heard s sums) _) (lines-ran t ok (run (pathsOf t) heard (pairsIn s)))))
-    (λ r e. rw refused (refused-alone _ r _ _ _ _ e))
+    (λ r e. rw (ran .refusal) (refused-alone _ r _ _ _ _ e))
 
 -- so what it prints from zeros is the text of the two inputs
-pub printed-from-zeros : (t s heardAfter chosen : List ℕ) (sumsAfter : List ℤ) (a : RunAnswer)
+pub printed-from-zeros : {t s heardAfter chosen : List ℕ} {sumsAfter : List ℤ} {a : RunAnswer}
     → Ran t (replicate 4096 0) s (replicate 64 (pos 0)) a heardAfter sumsAfter
     → chosen ≡ choicesIn t heardAfter
     → runAnswerText a t chosen sumsAfter ≡ ranText t s
 unfolding ranText
-printed-from-zeros t s heardAfter chosen sumsAfter a ran choices =
-    printed-run t _ s heardAfter chosen _ sumsAfter a ran choices
+printed-from-zeros ran choices = printed-run ran choices
 
 -- in 8,192 bytes the whole text stands in front
 pub whole-run-text : (t s before after : List ℕ) (n : ℕ)

@@ -38,7 +38,7 @@ returns c =
     let printed = c .before .before in
     let chosen = printed .before .before .before .before in
     let ran = chosen .before .before .before .before in
-    laid-as (printed .print-run .ensures) (printed-from-zeros _ _ _ _ _ _ (ran .run .ensures) (chosen .choices .ensures))
+    laid-as (printed .print-run .ensures) (printed-from-zeros (ran .run .ensures) (chosen .choices .ensures))
 
 pub run-text-spec : {M : Type 1} → statement M
 run-text-spec =

@@ -36,8 +36,8 @@ returns c =
     let chosen = printed .before .before .before .before in
     let ran = (chosen .before .before .before .before .before) .run .ensures in
     record {
-      lines = laid-as (printed .print-run .ensures) (printed-run _ _ _ _ _ _ _ _ ran (chosen .choices .ensures));
-      state = ran .1 .1 .0;
+      lines = laid-as (printed .print-run .ensures) (printed-run ran (chosen .choices .ensures));
+      state = ran .heard;
     }
 
 pub run-from-spec : {M : Type 1} → statement M

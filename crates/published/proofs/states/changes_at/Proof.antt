@@ -29,7 +29,7 @@ same-parts-requires c κs = search needs
 returns : tie.Need-returns
 returns c =
     let stepped = c .before .before .before .before in
-    change-told _ _ _ _ _ (stepped .step .ensures .1 .1) (c .same-parts .ensures)
+    change-told _ _ _ _ _ (stepped .step .ensures .heard) (c .same-parts .ensures)
 
 pub changes-at-spec : {M : Type 1} → statement M
 changes-at-spec =
