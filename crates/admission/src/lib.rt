@@ -3,11 +3,10 @@ ghost use mathlib.Core.Path.{_≡_};
 ghost use lib.ListN.{getD};
 ghost use Rattle.admission.specs.Judged.{badHeard, badOffset, badPair};
 use pairs::is_listening;
+use table_facts::VERTICES;
 
-// The number of pairs, and of vertices.
-const PAIRS: usize = 4096;
-
-const VERTICES: usize = 64;
+// The length of a heard state: a byte for each pair.
+pub const HEARD_LENGTH: usize = 4096;
 
 // The number at a place; past the end it is 0.
 fn number_at(numbers: &[usize], at: usize) -> usize
@@ -26,7 +25,7 @@ fn is_bad(nexts: &[[u8; 16]; 64], most: &[usize], k: usize, b: u8) -> bool
     if b == 0 {
         return false;
     }
-    if PAIRS <= k {
+    if HEARD_LENGTH <= k {
         return true;
     }
     if !is_listening(nexts, (k / VERTICES) as u8, (k % VERTICES) as u8) {

@@ -6,10 +6,9 @@ ghost use Rattle.rests.specs.Rests.{hearsByte};
 ghost use Rattle.choice.specs.Choosing.{chosenSlot, choiceByte, choicesBy};
 ghost use Rattle.choice.specs.FoundSlot.{foundByte};
 use slices::byte_at;
+use table_facts::SLOTS;
 
-// The number of a vertex's slots, and the byte of the destination's choice.
-const SLOTS: usize = 16;
-
+// The byte of the destination's choice.
 const DESTINATION_CHOICE: u8 = 1;
 
 // The slot that was found, or none.

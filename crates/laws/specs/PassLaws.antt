@@ -1,21 +1,20 @@
 -- Laws of one pass through a table: what the slots, the marks, the counts and the greatest hops are after one record more.
 use mathlib.Core.Path.{_≡_, refl, sym, ap, _∙_}
-use mathlib.Core.Bool.{Bool, true, false, _||_, or-assoc, or-false}
-use mathlib.Core.List.{List, [], _∷_, _++_, map, map-append}
-use Prim.Native.Nat.{ℕ, _+_, _*_, _/_, _%_, _<_, _≤_, min, max}
+use mathlib.Core.Bool.{Bool, true, false, _||_, or-assoc}
+use mathlib.Core.List.{List, [], _∷_, _++_}
+use Prim.Native.Nat.{ℕ, _+_, _<_, _≤_, min, max}
 use native.Mathlib.Omega.{arith}
 use native.Mathlib.Numerals.{add-one}
-use lib.ListN.{length, getD, set, replicate, length-append, length-map, length-replicate, getD-replicate}
-use lib.Dec.{eqb, ltb}
-use borrow.Author.Tests.{eq-eqb, ne-eqb, lt-ltb, le-ltb}
-use Rattle.lists.specs.Search.{anyBelow, anyIn, elem, maxBelow, thoseBelow}
+use lib.ListN.{length, getD, set, replicate, length-append, length-map}
+use lib.Dec.{eqb}
+use borrow.Author.Tests.{eq-eqb, ne-eqb}
+use Rattle.lists.specs.Search.{anyBelow, elem, maxBelow, thoseBelow}
 use Rattle.lists.specs.Fill.{padded, tabulate}
 use Rattle.lists.specs.Renew.{marked}
 use Rattle.lists.specs.SearchLaws.{max-suc, any-below-suc, those-in, those-out, those-count, count-most}
-use Rattle.lists.specs.ListLaws.{any-append, any-cons, any-nil}
-use Rattle.lists.specs.FillLaws.{is-tabulate, mark-one, tabulate-ext, tabulate-set, tabulate-at, mark-list, padded-more, padded-full}
-use Rattle.lists.specs.Tests.{by-equal, by-less, eqb-same}
-use Rattle.rules.specs.Table.{Path, records, pathAt, hopsAt, ownerAt, owned, pathsBelow, pathsOf, present, slotsOf, nextHop, listens, listensAt}
+use Rattle.lists.specs.FillLaws.{tabulate-ext, tabulate-set, tabulate-at, mark-list, padded-more, padded-full}
+use Rattle.lists.specs.Tests.{by-equal}
+use Rattle.rules.specs.Table.{records, pathAt, hopsAt, ownerAt, owned, pathsBelow, pathsOf, present, slotsOf}
 use Rattle.rules.specs.Machine.{speaks}
 use Rattle.laws.specs.MachineLaws.{speaks-destination, speaks-other}
 
@@ -173,76 +172,6 @@ counts-all t n counts e f =
     (λ l. ap length (speaks-destination (pathsOf t)))
     (λ v l h. sym (ap length (speaks-other (pathsOf t) v h) ∙ length-map (owned t (records t) v) (pathAt t))))
 
--- the listening pairs
-
-pub paths-in : (t : List ℕ) (i v : ℕ) → ownerAt t i ≡ v → pathsBelow t (i + 1) v ≡ pathsBelow t i v ++ pathAt t i ∷ []
-unfolding pathsBelow
-paths-in t i v e = ap (map (pathAt t)) (owned-in t i v e) ∙ map-append (pathAt t) (owned t i v) (i ∷ [])
-
-pub paths-out : (t : List ℕ) (i v : ℕ) → (ownerAt t i ≡ v → ⊥) → pathsBelow t (i + 1) v ≡ pathsBelow t i v
-unfolding pathsBelow
-paths-out t i v f = ap (map (pathAt t)) (owned-out t i v f)
-
--- the mark of a pair, where the speaker is a vertex
-unfoldable pub pairMarked : List Bool → ℕ → ℕ → List Bool
-pairMarked marks v u = elim (ltb u 64) [ true ↦ set marks (64 * v + u) true | false ↦ marks ]
-
-module _ (t : List ℕ) (i : ℕ) where
-  hears-more : (v u : ℕ)
-      → ownerAt t i ≡ v
-      → listens (pathsBelow t (i + 1)) v u ≡ listens (pathsBelow t i) v u || eqb (nextHop (pathAt t i)) u
-  unfolding listens
-  hears-more v u e =
-      let hears : Path → Bool = λ p. eqb (nextHop p) u in
-      ap (anyIn _) (paths-in t i v e) ∙ any-append _ (pathsBelow t i v) (pathAt t i ∷ [])
-      ∙ rw (any-cons hears (pathAt t i) [], any-nil hears, or-false)
-
-  hears-same : (v u : ℕ) → (ownerAt t i ≡ v → ⊥) → listens (pathsBelow t (i + 1)) v u ≡ listens (pathsBelow t i) v u
-  unfolding listens
-  hears-same v u f = ap (anyIn _) (paths-out t i v f)
-
-  -- one record more marks its own pair
-  pair-here : (k : ℕ)
-      → nextHop (pathAt t i) < 64
-      → listensAt (pathsBelow t (i + 1)) k ≡ listensAt (pathsBelow t i) k || eqb k (64 * ownerAt t i + nextHop (pathAt t i))
-  unfolding listensAt
-  pair-here k small =
-      let u = nextHop (pathAt t i) in
-      let own = 64 * ownerAt t i + u in
-      by-equal (ownerAt t i) (k / 64)
-      (λ e. hears-more (k / 64) (k % 64) e
-      ∙ ap (λ (b : Bool). listensAt (pathsBelow t i) k || b) (eqb-same u (k % 64) k own (omega arith) (omega arith)))
-      (λ e. hears-same (k / 64) (k % 64) e ∙ sym (rw (ne-eqb k own (omega arith)) (or-false (listensAt (pathsBelow t i) k))))
-
-  -- and none where the second vertex is none
-  pair-none : (k : ℕ) → 64 ≤ nextHop (pathAt t i) → listensAt (pathsBelow t (i + 1)) k ≡ listensAt (pathsBelow t i) k
-  unfolding listensAt
-  pair-none k large =
-      by-equal (ownerAt t i) (k / 64)
-      (λ e. hears-more (k / 64) (k % 64) e
-      ∙ rw (ne-eqb (nextHop (pathAt t i)) (k % 64) (omega arith)) (or-false (listensAt (pathsBelow t i) k)))
-      (λ e. hears-same (k / 64) (k % 64) e)
-
-  pub pairs-more : {marks : List Bool} {v u : ℕ}
-      → marks ≡ tabulate (listensAt (pathsBelow t i)) 4096
-      → v ≡ ownerAt t i
-      → u ≡ nextHop (pathAt t i)
-      → pairMarked marks v u ≡ tabulate (listensAt (pathsBelow t (i + 1))) 4096
-  unfolding pairMarked
-  pairs-more {marks} {v} {u} e f g =
-      let heard = listensAt (pathsBelow t i) in
-      let hears = listensAt (pathsBelow t (i + 1)) in
-      by-less u 64
-      (λ h. rw (lt-ltb u 64 h, pairMarked) (rw (e, f, g)
-      (mark-one heard hears 4096 (64 * ownerAt t i + nextHop (pathAt t i)) (λ k l. pair-here k (rw g at h)))))
-      (λ h. rw (le-ltb u 64 h, pairMarked) (e ∙ tabulate-ext heard hears 4096 (λ k l. sym (pair-none k (rw g at h)))))
-
-pub pairs-none : (t : List ℕ) → replicate 4096 false ≡ tabulate (listensAt (pathsBelow t 0)) 4096
-unfolding listensAt listens pathsBelow owned thoseBelow anyIn
-pairs-none t =
-    is-tabulate (listensAt (pathsBelow t 0)) false 4096 (replicate 4096 false) (length-replicate 4096 false)
-    (λ k l. getD-replicate 4096 k false false l)
-
 -- what was gathered from all the records
 
 pub names-all : (t : List ℕ) (n : ℕ) (marks : List Bool)
@@ -251,23 +180,3 @@ pub names-all : (t : List ℕ) (n : ℕ) (marks : List Bool)
     → marks ≡ tabulate (present t) 64
 unfolding present
 names-all t n marks e f = f ∙ tabulate-ext (namedBelow t n) (present t) 64 (λ v l. ap (λ (m : ℕ). namedBelow t m v) e)
-
-pub pairs-all : (t : List ℕ) (n : ℕ) (marks : List Bool)
-    → n ≡ records t
-    → marks ≡ tabulate (listensAt (pathsBelow t n)) 4096
-    → marks ≡ tabulate (listensAt (pathsOf t)) 4096
-unfolding pathsOf
-pairs-all t n marks e f = f ∙ ap (λ (m : ℕ). tabulate (listensAt (pathsBelow t m)) 4096) e
-
--- a pair
-
-pub pair-skip : (marks : List Bool) (v u : ℕ) → 64 ≤ u → marks ≡ pairMarked marks v u
-unfolding pairMarked
-pair-skip marks v u h = rw (le-ltb u 64 h, pairMarked)
-
-pub pair-store : (marks next : List Bool) (v u : ℕ)
-    → u < 64
-    → next ≡ set marks (v * 64 + u) true
-    → next ≡ pairMarked marks v u
-unfolding pairMarked
-pair-store marks next v u h e = let k : v * 64 + u ≡ 64 * v + u = omega arith in e ∙ rw (lt-ltb u 64 h, pairMarked) (rw k)

@@ -6,16 +6,14 @@ ghost use Rattle.pairs.specs.SlotPaths.{slotPaths, heldIn, slotted};
 ghost use Rattle.pairs.specs.NextHops.{nextRow, slotTo, leadsIn, hearsFrom, listensIn};
 use record_fields::next_at;
 use slices::wide;
+use table_facts::NO_RECORD;
+use table_facts::SLOTS;
 use table_facts::slots_of;
 
-// An empty slot.
-const NO_RECORD: u16 = 65535;
 // The next hop of an empty slot.
 const NOBODY: u8 = 255;
-// The number of vertices, and of a vertex's slots.
+// The number of vertices.
 const VERTICES: u8 = 64;
-
-const SLOTS: usize = 16;
 
 // The next hop of each slot's path, 255 where the slot is empty.
 fn next_row(table: &[u8], row: [u16; 16]) -> [u8; 16]

@@ -32,15 +32,19 @@ module _ (n k : ℕ) where
   pub refused-small : (t : List ℕ) → Refused n k ≡ readingOf (refusal t) → k < 1008
   refused-small t e = told t _ (reading-refused n k (refusal t) e) .place
 
--- a mark read from the marks of the numbers below n, and past their end
+mark-byte : (b : Bool) → boolByte b ≡ cond b 1 0
+mark-byte true = refl
+mark-byte false = refl
+
+-- a mark read from the marks of the numbers below n, asked for, and past their end
 module _ (test : ℕ → Bool) (n i : ℕ) where
   pub mark-in : (marks : List Bool) → marks ≡ tabulate test n → i < n → boolByte (getD marks i false) ≡ markOf test n i
   unfolding markOf
-  mark-in marks e h = rw (e, tabulate-at test n i false h, lt-ltb i n h) (go (test i))
-    where
-      go : (b : Bool) → boolByte b ≡ cond b 1 0
-      go true = refl
-      go false = refl
+  mark-in marks e h = rw (e, tabulate-at test n i false h, lt-ltb i n h) (mark-byte (test i))
+
+  pub mark-told : (b : Bool) → b ≡ test i → i < n → boolByte b ≡ markOf test n i
+  unfolding markOf
+  mark-told b e h = rw (← e, lt-ltb i n h) (mark-byte b)
 
   pub mark-past : n ≤ i → 0 ≡ markOf test n i
   unfolding markOf

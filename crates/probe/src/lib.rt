@@ -1,18 +1,20 @@
 // What the entries for C do not show, for tests outside Rattle: the reader, the facts and the texts, thin over the
 // proved crates.
 ghost use mathlib.Core.Path.{_≡_};
-ghost use Rattle.rules.specs.Table.{longest, present, pathsOf, listensAt};
+ghost use Rattle.rules.specs.Table.{longest, present};
 ghost use Rattle.rules.specs.Refusals.{refusal};
 ghost use Rattle.rules.specs.Text.{checkText};
 ghost use Rattle.rules.specs.RunText.{ranText};
 ghost use Rattle.text_writing.specs.Lay.{Laid};
 ghost use Rattle.rules.specs.Entries.{codeOf};
-ghost use Rattle.probe.specs.Numbers.{markOf, slotAt};
+ghost use Rattle.pairs.specs.NextHops.{listensIn};
+ghost use Rattle.probe.specs.Numbers.{markOf, slotAt, nextsOf};
 use check_text::check_text;
+use pairs::is_listening;
+use pairs::next_hops;
 use reader::Reading;
 use reader::read;
 use run_text::run_text;
-use table_facts::listening_in;
 use table_facts::longest_hops;
 use table_facts::present_in;
 use table_facts::slots_of;
@@ -57,16 +59,17 @@ pub extern "C" fn probe_present(table: &[u8], v: u64) -> u64
     marks[v as usize] as u64
 }
 
-// 1 where the pair, 64 times the listener plus the speaker, is a listening pair, otherwise 0.
+// 1 where the pair, 64 times the listener plus the speaker, listens by the slots, which in an accepted table is where it
+// is a listening pair; otherwise 0.
 #[no_mangle]
 pub extern "C" fn probe_listens(table: &[u8], pair: u64) -> u64
-    ensures { λ r. ⌜ r ≡ markOf (listensAt (pathsOf (now (table .entry)))) 4096 pair ⌝ }
+    ensures { λ r. ⌜ r ≡ markOf (listensIn (nextsOf (now (table .entry)))) 4096 pair ⌝ }
 {
     if PAIRS <= pair {
         return 0;
     }
-    let marks = listening_in(table);
-    marks[pair as usize] as u64
+    let nexts = next_hops(table);
+    is_listening(&nexts, (pair / VERTICES) as u8, (pair % VERTICES) as u8) as u64
 }
 
 // A function of its own, since the cast of an element in place would ask again that the element fits.

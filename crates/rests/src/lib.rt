@@ -10,14 +10,12 @@ use record_fields::next_at;
 use record_fields::path_at;
 use slices::same_parts;
 use slices::wide;
+use table_facts::NO_RECORD;
+use table_facts::SLOTS;
 use table_facts::slots_of;
 
-// An empty slot.
-const NO_RECORD: u16 = 65535;
-// The number of vertices, and of a vertex's slots.
+// The number of vertices.
 const VERTICES: u8 = 64;
-
-const SLOTS: usize = 16;
 
 // The place of a path among those of a row of slots, from 1; 0 where it is not there.
 fn place_of(table: &[u8], path: &[u8], row: [u16; 16]) -> u8

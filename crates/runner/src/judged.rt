@@ -5,6 +5,7 @@ ghost use lib.ListN.{length};
 ghost use Rattle.rules.specs.Refusals.{refusal};
 ghost use Rattle.runner.specs.Ran.{refused, Ran};
 use crate::work::work;
+use admission::HEARD_LENGTH;
 use admission::bad_offset;
 use admission::bad_pair;
 use answer::RunAnswer;
@@ -12,9 +13,7 @@ use answer::RunVerdict;
 use pairs::next_hops;
 use table_facts::spoken_in;
 
-// The length of a heard state, and the longest schedule.
-const HEARD_LENGTH: usize = 4096;
-
+// The longest schedule.
 const LONGEST_SCHEDULE: usize = 32768;
 
 // A refusal's other numbers are 0.

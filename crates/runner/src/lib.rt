@@ -7,13 +7,12 @@ ghost use mathlib.Core.Path.{_≡_};
 ghost use Rattle.runner.specs.Ran.{Ran};
 use crate::judged::refusal_of;
 use crate::judged::run_accepted;
+use admission::HEARD_LENGTH;
 use answer::RunAnswer;
 use reader::Reading;
 use reader::read;
 
-// The length of a heard state, and the number of sums.
-const HEARD_LENGTH: usize = 4096;
-
+// The number of sums.
 const SUMS_LENGTH: usize = 64;
 
 // Works a schedule, and answers what it counted and each vertex's sum; a refused call changes no byte.

@@ -7,6 +7,7 @@ ghost use Rattle.rules.specs.Refusals.{refusal};
 ghost use Rattle.rules.specs.Machine as rules;
 ghost use Rattle.stepper.specs.Working.{Rows, Workable, Heard};
 ghost use Rattle.stepper.specs.Stepped.{Stepped};
+use admission::HEARD_LENGTH;
 use admission::bad_offset;
 use answer::StepAnswer;
 use choice::choice_byte;
@@ -18,9 +19,6 @@ use rests::asked_row;
 use table_facts::slots_of;
 use table_facts::spoken_in;
 use tally::movement;
-
-// The length of a heard state.
-const HEARD_LENGTH: usize = 4096;
 
 // Stores a byte, where there is a place for it.
 fn store(heard: &mut [u8], at: usize, byte: u8)

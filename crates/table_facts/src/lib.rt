@@ -1,20 +1,17 @@
-// What the check and the machine need of a table, for any bytes: the longest hops, who is present, who listens, who
-// speaks of how many paths, the slots.
+// What the check and the machine need of a table, for any bytes: the longest hops, who is present, who speaks of how
+// many paths, the slots.
 ghost use mathlib.Core.Path.{_≡_};
 ghost use Prim.Native.Nat.{min};
 ghost use lib.ListN.{length};
 ghost use Rattle.lists.specs.Fill.{tabulate};
-ghost use Rattle.rules.specs.Table.{records, longest, present, pathsOf, slotsOf, listensAt};
+ghost use Rattle.rules.specs.Table.{records, longest, present, pathsOf, slotsOf};
 ghost use Rattle.rules.specs.Machine.{speaks};
-ghost use Rattle.laws.specs.PassLaws.{pairMarked};
 use record_fields::RECORD_BYTES;
 use record_fields::hops_at;
-use record_fields::next_at;
 use record_fields::owner_at;
 use record_fields::path_at;
 use slices::at_most;
 use slices::larger;
-use slices::mark;
 use slices::mark_all;
 
 pub const VERTICES: usize = 64;
@@ -57,31 +54,6 @@ pub fn present_in(table: &[u8]) -> [bool; VERTICES]
         i += 1;
     }
     named
-}
-
-// Marks the pair v, u, where u is a vertex.
-fn mark_pair(marks: &mut [bool], v: u8, u: u8)
-    ensures { λ r. ⌜ now (marks .exit) ≡ pairMarked (now (marks .entry)) v u ⌝ }
-{
-    if 64 <= u {
-        return;
-    }
-    let at = v as usize * VERTICES + u as usize;
-    mark(marks, at);
-}
-
-// Which pairs listen: v to u at 64 times v plus u.
-pub fn listening_in(table: &[u8]) -> [bool; PAIRS]
-    ensures { λ r. ⌜ r ≡ tabulate (listensAt (pathsOf (now (table .entry)))) 4096 ⌝ }
-{
-    let count = table.len() / RECORD_BYTES;
-    let mut marks = [false; PAIRS];
-    let mut i = 0;
-    while i < count {
-        mark_pair(&mut marks, owner_at(table, i), next_at(table, i));
-        i += 1;
-    }
-    marks
 }
 
 // How many paths each vertex can speak of: one for the destination, for every other its records.
