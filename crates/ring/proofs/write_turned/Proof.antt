@@ -39,7 +39,8 @@ part-fill-padded-end-2 c = search needs
 
 slice-aggregate-fill-padded : tie.Need-slice-aggregate-fill-padded
 slice-aggregate-fill-padded c =
-    sym (length-take-le _ _ (rw (c .before .before .before .before .before .before .before .before .lowest-place .ensures) (place-most _ _)))
+    let at-done = c .before .before .before .before .before .before .before in
+    sym (length-take-le _ _ (rw (at-done .before .lowest-place .ensures) (place-most _ _)))
 
 fill-padded-requires-2 : tie.Need-fill-padded-requires-2
 fill-padded-requires-2 c κs = search needs
@@ -49,10 +50,11 @@ same-length c = search needs
 
 returns : tie.Need-returns
 returns c =
-    let second = c .before .before in
-    let first = second .before .before .before .before .before in
-    let most = first .before .before .before in
-    turned-written _ _ _ _ _ _ (most .before .lowest-place .ensures) (most .at-most .ensures) (first .fill-padded .ensures) (second .fill-padded2 .ensures)
+    let at-second = c .before .before in
+    let at-first = at-second .before .before .before .before .before in
+    let at-done = at-first .before .before .before in
+    turned-written _ _ _ _ _ _ (at-done .before .lowest-place .ensures) (at-done .at-most .ensures) (at-first .fill-padded .ensures)
+    (at-second .fill-padded2 .ensures)
 
 pub write-turned-spec : {M : Type 1} → statement M
 write-turned-spec =

@@ -1,15 +1,12 @@
--- Laws of the ring: it depends on where stuck vertices lead and on nothing else, and the contract of its search allows one result.
-use mathlib.Core.Path.{_≡_, refl, sym, ap, _∙_}
+-- The ring depends on where stuck vertices lead and on nothing else.
+use mathlib.Core.Path.{_≡_, refl, ap, _∙_}
 use mathlib.Core.Bool.{Bool, true}
 use mathlib.Core.List.{List, [], _∷_, _++_}
 use Prim.Native.Nat.{ℕ, zero, suc}
-use lib.ListN.{length}
 use Rattle.lists.specs.Search.{elem, firstFrom}
 use Rattle.lists.specs.SearchLaws.{first-found}
-use Rattle.lists.specs.Fill.{padded}
 use Rattle.lists.specs.Tests.{by-test, by-option}
 use Rattle.rules.specs.Greedy.{closedPart, turned, ringFrom}
-use Rattle.ring.specs.Ring.{ringIn}
 
 -- two ways to follow that agree at stuck vertices, and lead from stuck to stuck
 module _ (stuck : ℕ → Bool) (f g : ℕ → ℕ)
@@ -30,12 +27,3 @@ module _ (stuck : ℕ → Bool) (f g : ℕ → ℕ)
       by-option (firstFrom stuck 0 64)
       (λ q. rw (q, ringFrom))
       (λ v q. rw (q, ringFrom) (ap turned (closed-agrees 65 [] v (first-found stuck 0 64 v q .passes))))
-
--- any two results and buffers that the contract of `find_ring` allows are equal
-pub one-ring : (T : List ℕ) (S : List Bool) (B ring : List ℕ) (a b : ℕ) (x y : List ℕ)
-    → a ≡ length (ringIn T S B)
-    → x ≡ padded (length ring) 255 (ringIn T S B)
-    → b ≡ length (ringIn T S B)
-    → y ≡ padded (length ring) 255 (ringIn T S B)
-    → (a ≡ b) × (x ≡ y)
-one-ring T S B ring a b x y p q r s = (p ∙ sym r, q ∙ sym s)
