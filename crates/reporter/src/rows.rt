@@ -4,7 +4,7 @@ ghost use Prim.Native.Nat.{_≤_, pred};
 ghost use lib.ListN.{length};
 ghost use Rattle.lists.specs.Fill.{blocks};
 ghost use Rattle.rules.specs.Report.{rowBytes};
-ghost use Rattle.checker.specs.Rows.{shownRow};
+ghost use Rattle.reporter.specs.Shown.{shownRow};
 use record_fields::path_at;
 use record_fields::rank_at;
 use slices::fill_padded;
@@ -33,9 +33,9 @@ fn write_row(part: &mut [u8], mark: u8, rank: u8, path: &[u8])
 }
 
 // Writes all rows: that of vertex 0, whose path is no record, then those that show their records.
-pub(crate) fn write_rows(t: &[u8], marks: &[u8], shown: &[u16], rows: &mut [u8])
+pub(crate) fn write_rows(table: &[u8], marks: &[u8], shown: &[u16], rows: &mut [u8])
     requires { ⌜ (length (now marks) ≡ 64) × (length (now shown) ≡ 64) × (length (now rows) ≡ 1024) ⌝ }
-    ensures { λ r. ⌜ now (rows .exit) ≡ blocks (shownRow (now (t .entry)) (now (marks .entry)) (now (shown .entry))) 64 ⌝ }
+    ensures { λ r. ⌜ now (rows .exit) ≡ blocks (shownRow (now (table .entry)) (now (marks .entry)) (now (shown .entry))) 64 ⌝ }
 {
     write_row(&mut rows[..16], 0, 0, b"\0");
     let mut v = 1;
@@ -43,7 +43,12 @@ pub(crate) fn write_rows(t: &[u8], marks: &[u8], shown: &[u16], rows: &mut [u8])
         let at = v * 16;
         let end = at + 16;
         let i = shown[v] as usize;
-        write_row(&mut rows[at..end], marks[v], rank_at(t, i), path_at(t, i));
+        write_row(
+            &mut rows[at..end],
+            marks[v],
+            rank_at(table, i),
+            path_at(table, i),
+        );
         v += 1;
     }
 }

@@ -1,13 +1,13 @@
--- `checker::counts::count_between` meets its contract: the count of the vertices below v.
+-- `reporter::counts::count_between` meets its contract: the count of the vertices below v.
 -- Assumes nothing.
 use mathlib.Core.Path.{_≡_}
 use Prim.Native.Nat.{_≤_, _-_}
 use native.Mathlib.Omega.{arith}
 use Rattle.lists.specs.Search.{countBelow}
-use Rattle.checker.specs.Rows.{isBetween, countBetween}
-use Rattle.checker.specs.RowLaws.{count-none, count-skip, count-more, count-small}
-use Rattle.checker.proofs.counts.count_between.Statement.{statement}
-use Rattle.checker.proofs.counts.count_between.Tie as tie
+use Rattle.reporter.specs.Shown.{isBetween, countBetween}
+use Rattle.reporter.specs.ShownLaws.{count-none, count-skip, count-more, count-small}
+use Rattle.reporter.proofs.counts.count_between.Statement.{statement}
+use Rattle.reporter.proofs.counts.count_between.Tie as tie
 
 abbrev Inv-loop : tie.InvT-loop
 Inv-loop low high marks count₀ v₀ count v = (1 ≤ v) × (v ≤ 64) × (count ≡ countBelow (isBetween low high marks) v)
@@ -32,30 +32,34 @@ loop-less c = omega arith
 
 loop-again : tie.Need-loop-again Inv-loop μ-loop
 loop-again c =
-    let a = c .before .before .before .before in
-    let skip = count-skip _ _ _ (a .loop .v) _ (a .before .before .pre) (a .loop .inv .0) (c .before .before .before .loop-test .taken) in
-    (omega arith, omega arith, skip (a .loop .inv .2) _ (c .before .is-outside .ensures) (c .if1 .taken))
+    let at-test = c .before .before .before in
+    let at-loop = at-test .before in
+    let l = at-loop .loop in
+    let at-v = count-skip _ _ _ (l .v) _ (at-loop .before .before .pre) (l .inv .0) (at-test .loop-test .taken) in
+    (omega arith, omega arith, at-v (l .inv .2) _ (c .before .is-outside .ensures) (c .if1 .taken))
 
 add-count : tie.Need-add-count Inv-loop μ-loop
 add-count c =
-    let a = c .before .before .before .before in
-    omega (arith, count-small _ _ _ (a .loop .v) _ (a .loop .inv .2))
+    let at-loop = c .before .before .before .before in
+    omega (arith, count-small _ _ _ (at-loop .loop .v) _ (at-loop .loop .inv .2))
 
 loop-less-2 : tie.Need-loop-less-2 Inv-loop μ-loop
 loop-less-2 c = omega arith
 
 loop-again-2 : tie.Need-loop-again-2 Inv-loop μ-loop
 loop-again-2 c =
-    let a = c .before .before .before .before in
-    let more = count-more _ _ _ (a .loop .v) _ (a .before .before .pre) (a .loop .inv .0) (c .before .before .before .loop-test .taken) in
-    (omega arith, omega arith, more (a .loop .inv .2) _ (c .before .is-outside .ensures) (c .if1 .left))
+    let at-test = c .before .before .before in
+    let at-loop = at-test .before in
+    let l = at-loop .loop in
+    let at-v = count-more _ _ _ (l .v) _ (at-loop .before .before .pre) (l .inv .0) (at-test .loop-test .taken) in
+    (omega arith, omega arith, at-v (l .inv .2) _ (c .before .is-outside .ensures) (c .if1 .left))
 
 returns : tie.Need-returns Inv-loop μ-loop
 unfolding countBetween
 returns c =
-    let a = c .before in
-    let e : a .loop .v ≡ 64 = omega arith in
-    rw (← e) (a .loop .inv .2)
+    let l = c .before .loop in
+    let e : l .v ≡ 64 = omega arith in
+    rw (← e) (l .inv .2)
 
 pub count-between-spec : {M : Type 1} → statement M
 count-between-spec =

@@ -1,23 +1,24 @@
--- Laws of the rows and counts, as the code's steps need them.
+-- Laws of what marks and records show, as the code's steps need them.
 use mathlib.Core.Path.{_≡_, refl, sym, ap, _∙_}
 use mathlib.Core.Bool.{Bool, true, false, not}
 use mathlib.Core.List.{List, [], _∷_, _++_, append-nil}
 use Prim.Native.Nat.{ℕ, suc, pred, _+_, _-_, _*_, _<_, _≤_}
 use native.Mathlib.Omega.{arith}
 use native.Mathlib.Numerals.{add-one}
-use lib.ListN.{length, getD, take, drop, set, length-set, length-take, length-drop, length-append, drop-of-length-le}
+use lib.ListN.{length, getD, take, drop, set, replicate, length-set, length-take, length-drop, length-append, drop-of-length-le}
 use lib.Seq.{take-all}
+use lib.Dec.{eqb}
 use borrow.Author.Tests.{eq-eqb, ne-eqb}
 use Rattle.lists.specs.Search.{countBelow, outside}
 use Rattle.lists.specs.SearchLaws.{count-in, count-out, count-most}
-use Rattle.lists.specs.Fill.{blocks, padded}
+use Rattle.lists.specs.Fill.{blocks, padded, tabulate}
 use Rattle.lists.specs.ListLaws.{getD-within}
 use Rattle.lists.specs.RenewLaws.{block-first, block-length, block-more}
-use Rattle.lists.specs.Tests.{by-equal}
-use Rattle.rules.specs.Table.{recordAt, hopsOf, pathOf, rankAt, pathAt}
+use Rattle.lists.specs.Tests.{by-equal, by-less, is-inside, below-out, above-out}
+use Rattle.rules.specs.Table.{recordAt, hopsOf, nextHop, pathOf, rankAt, pathAt}
 use Rattle.rules.specs.Report.{rowBytes}
 use Rattle.laws.specs.ReportLaws.{row-bytes-length}
-use Rattle.checker.specs.Rows.{isBetween, shownRow}
+use Rattle.reporter.specs.Shown.{isBetween, nextFrom, shownNext, shownRow}
 
 -- the count that has come to v; b says whether the mark there is outside
 module _ (low high : ℕ) (marks : List ℕ) where
@@ -41,6 +42,44 @@ module _ (low high : ℕ) (marks : List ℕ) where
 
   pub count-small : (v n : ℕ) → n ≡ countBelow (isBetween low high marks) v → n ≤ v
   count-small v n e = omega (arith, count-most (isBetween low high marks) v)
+
+-- the marks of the stuck
+pub is-stuck : (m : ℕ) → eqb m 255 ≡ not (outside 255 255 m)
+is-stuck m =
+    by-equal m 255
+    (λ q. eq-eqb m 255 q ∙ sym (ap not (is-inside 255 255 m (omega arith) (omega arith))))
+    (λ q. ne-eqb m 255 q ∙ sym (ap not (by-less m 255 (below-out 255 255 m) (λ h. above-out 255 255 m (omega arith)))))
+
+module _ (marks : List ℕ) where
+  -- 0 is never stuck
+  pub stuck-first : take 1 (replicate 64 false) ≡ tabulate (isBetween 255 255 marks) 1
+  unfolding tabulate isBetween
+  stuck-first = refl
+
+  pub stuck-next : (v : ℕ) → length marks ≡ 64 → 1 ≤ v → v < 64 → eqb (getD marks v 0) 255 ≡ isBetween 255 255 marks v
+  unfolding isBetween
+  stuck-next v long l h =
+      rw (ne-eqb v 0 (λ q. omega arith))
+      (ap (λ (m : ℕ). eqb m 255) (getD-within marks v 0 254 (omega arith)) ∙ is-stuck (getD marks v 254))
+
+-- whom a vertex follows
+module _ (t : List ℕ) where
+  pub next-stuck : (b : Bool) (i n : ℕ) → b ≡ true → n ≡ nextHop (pathAt t i) → n ≡ nextFrom t b i
+  unfolding nextFrom
+  next-stuck b i n e q = rw (e, nextFrom) q
+
+  pub next-other : (b : Bool) (i : ℕ) → b ≡ false → 0 ≡ nextFrom t b i
+  unfolding nextFrom
+  next-other b i e = rw (e, nextFrom)
+
+  pub next-shown : (stuck : List Bool) (shown : List ℕ) (v n : ℕ)
+      → length stuck ≡ 64
+      → length shown ≡ 64
+      → v < 64
+      → n ≡ nextFrom t (getD stuck v false) (getD shown v 0)
+      → n ≡ shownNext t stuck shown v
+  unfolding shownNext
+  next-shown stuck shown v n l m h q = q ∙ ap (nextFrom t (getD stuck v false)) (getD-within shown v 0 65535 (omega arith))
 
 -- a row written to the 16 bytes of its part
 module _ (mark rank hops : ℕ) where
