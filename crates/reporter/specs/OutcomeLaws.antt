@@ -56,6 +56,15 @@ module _ (t : List ℕ) (o : Outcome) (v : ℕ) where
   unfolding outcomeRow
   row-settled p a q = rw (a, q, outcomeRow)
 
+-- a mark depends on what is settled of the vertex alone
+pub mark-same : (t : List ℕ) (o p : Outcome) (v : ℕ) → o .settled v ≡ p .settled v → o .stage v ≡ p .stage v → markOf t o v ≡ markOf t p v
+mark-same t o p v q r =
+    by-test (present t v)
+    (λ a. by-option (p .settled v)
+    (λ n. mark-waits t o v a (q ∙ n) ∙ sym (mark-waits t p v a n))
+    (λ x n. mark-settled t o v x a (q ∙ n) ∙ r ∙ sym (mark-settled t p v x a n)))
+    (λ a. mark-absent t o v a ∙ sym (mark-absent t p v a))
+
 -- the rank byte of what a vertex shows is the rank of its path
 module _ (t : List ℕ) (e : refusal t ≡ none) where
   no-rank : rankAt t 65535 ≡ 0

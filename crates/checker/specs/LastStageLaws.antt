@@ -1,5 +1,5 @@
 -- The steps of the loop over the stages.
-use mathlib.Core.Path.{_≡_, sym, ap, _∙_, fun-ext}
+use mathlib.Core.Path.{_≡_, refl, sym, ap, _∙_, fun-ext}
 use mathlib.Core.Bool.{Bool, true, false}
 use mathlib.Core.List.{List}
 use mathlib.Core.Option.{none}
@@ -15,10 +15,13 @@ use Rattle.rules.specs.Greedy.{settled, stageCount}
 use Rattle.laws.specs.GreedyLaws.{settled-end}
 use Rattle.lists.specs.Search.{same}
 use Rattle.lists.specs.ListLaws.{same-eq, differs}
-use Rattle.judge.specs.Standing.{shownAfter, markAfter}
-use Rattle.checker.specs.Settling.{markAt, startMark, Stands, Ended}
-use Rattle.checker.specs.MarkLaws.{mark-same}
-use Rattle.checker.specs.StageLaws.{stands-next, waits-next, other-counted, same-counted}
+use Rattle.judge.specs.declared.Standing.{Standing}
+use Rattle.judge.specs.Standing.{markAfter}
+use Rattle.judge.specs.Staged.{Staged}
+use Rattle.reporter.specs.Outcome.{markOf}
+use Rattle.reporter.specs.OutcomeLaws.{mark-same}
+use Rattle.checker.specs.AfterStages.{after, startMark, Stands, Ended}
+use Rattle.checker.specs.NextStageLaws.{stands-next, waits-next, other-counted, same-counted}
 use Rattle.checker.specs.StartLaws.{start-same, stands-start}
 
 -- after the last stage
@@ -34,20 +37,20 @@ stands-end t marks shown st =
     record {
       manyMarks = st .manyMarks;
       manyShown = st .manyShown;
-      marked = st .marked ∙ tabulate-ext (markAt t (suc s)) (markAt t s) 64 (λ v h. mark-same t (suc s) s v (same v));
+      marked = st .marked ∙ tabulate-ext (markOf t (after t (suc s))) (markOf t (after t s)) 64 (λ v h. mark-same t (after t (suc s)) (after t s) v (same v) refl);
       held = st .held ∙ fun-ext same;
       own = st .own;
     }
 
 -- the steps of the loop over the stages
 
-module _ (t : List ℕ) (e : refusal t ≡ none) where
+module _ {t : List ℕ} (e : refusal t ≡ none) where
   -- it starts with the marks at the start
-  pub settle-start : (named : List Bool) (marks : List ℕ)
+  pub settle-start : {named : List Bool} {marks : List ℕ}
       → named ≡ tabulate (present t) 64
       → marks ≡ tabulate (startMark (λ v. getD named v false)) 64
       → Stands t 0 marks (replicate 64 65535)
-  settle-start named marks a b =
+  settle-start {named} {marks} a b =
       let f : ℕ → Bool = λ v. getD named v false in
       let g : (v : ℕ) → v < 64 → f v ≡ present t v
       = λ v h. ap (λ (l : List Bool). getD l v false) a ∙ tabulate-at (present t) 64 v false h in
@@ -55,30 +58,27 @@ module _ (t : List ℕ) (e : refusal t ≡ none) where
       = b ∙ tabulate-ext (startMark f) (startMark (present t)) 64 (λ v h. start-same f (present t) v (g v h)) in
       rw begun (stands-start t e)
 
-  module _ (k : ℕ) (marks shown : List ℕ) (st : Stands t k marks shown) (slots : List (List ℕ)) (s : slots ≡ slotsOf t (min (records t) 1008))
-      (m : k ≤ stageCount (pathsOf t) (present t)) (marksNext shownNext : List ℕ)
-      (a : marksNext ≡ tabulate (markAfter t slots marks shown (k + 1)) 64) (b : shownNext ≡ tabulate (shownAfter t slots marks shown) 64)
-      (x : Bool) (look : x ≡ same marks marksNext) where
-    following : marksNext ≡ tabulate (markAfter t slots marks shown (suc k)) 64
-    following = rw add-one at a
+  module _ {k : ℕ} {now next : Standing} (st : Stands t k (now .marks) (now .shown)) {slots : List (List ℕ)}
+      (s : slots ≡ slotsOf t (min (records t) 1008)) (m : k ≤ stageCount (pathsOf t) (present t)) (staged : Staged t slots now (k + 1) next)
+      {x : Bool} (look : x ≡ same (now .marks) (next .marks)) where
+    following : next .marks ≡ tabulate (markAfter t slots (now .marks) (now .shown) (suc k)) 64
+    following = rw add-one at (staged .marks)
 
     -- it goes on while a stage changes a mark
-    pub settle-more : x ≡ false → (k + 1 ≤ stageCount (pathsOf t) (present t)) × Stands t (k + 1) marksNext shownNext
+    pub settle-more : x ≡ false → (k + 1 ≤ stageCount (pathsOf t) (present t)) × Stands t (k + 1) (next .marks) (next .shown)
     settle-more q =
-        let other : marks ≡ tabulate (markAfter t slots marks shown (suc k)) 64 → ⊥
-        = λ z. differs marks marksNext (sym look ∙ q) (z ∙ sym following) in
-        let n = stands-next t e k marks shown st slots s m in
-        (rw add-one (other-counted t e k marks shown st slots s m other), rw (add-one, following, b) n)
+        let other : now .marks ≡ tabulate (markAfter t slots (now .marks) (now .shown) (suc k)) 64 → ⊥
+        = λ z. differs (now .marks) (next .marks) (sym look ∙ q) (z ∙ sym following) in
+        (rw add-one (other-counted e st s m other), rw (add-one, following, staged .shown) (stands-next e st s m))
 
     -- and has ended where one changes none
-    pub settle-end : x ≡ true → Ended t marksNext shownNext k
+    pub settle-end : x ≡ true → Ended t (next .marks) (next .shown) k
     settle-end q =
-        let unchanged : marks ≡ tabulate (markAfter t slots marks shown (suc k)) 64 = same-eq marks marksNext (sym look ∙ q) ∙ following in
-        let c = same-counted t e k marks shown st slots s m unchanged in
-        let n = stands-next t e k marks shown st slots s m in
-        let w = waits-next t e k marks shown st slots s m in
+        let unchanged : now .marks ≡ tabulate (markAfter t slots (now .marks) (now .shown) (suc k)) 64
+        = same-eq (now .marks) (next .marks) (sym look ∙ q) ∙ following in
+        let c = same-counted e st s m unchanged in
         record {
           counted = c;
-          stands = stands-end t marksNext shownNext (rw (← c, following, b) n);
-          waits = rw (← c, b) w;
+          stands = stands-end t (next .marks) (next .shown) (rw (← c, following, staged .shown) (stands-next e st s m));
+          waits = rw (← c, staged .shown) (waits-next e st s m);
         }

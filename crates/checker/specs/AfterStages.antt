@@ -1,38 +1,31 @@
 -- What the check's marks and records say after k stages of the rules, and after the last.
 use mathlib.Core.Path.{_≡_}
-use mathlib.Core.Logic.{_⊎_}
 use mathlib.Core.Bool.{Bool, true, false}
 use mathlib.Core.List.{List}
 use mathlib.Core.Option.{none}
-use Prim.Native.Nat.{ℕ, _<_}
+use Prim.Native.Nat.{ℕ}
 use lib.ListN.{length, getD}
 use lib.Dec.{eqb}
 use Rattle.lists.specs.Fill.{tabulate}
-use Rattle.rules.specs.Table.{records, pathAt, ownerAt, pathsOf, present}
-use Rattle.rules.specs.Greedy.{isSettled, best, settled, stageCount, stageOf}
+use Rattle.rules.specs.Table.{pathAt, pathsOf, present}
+use Rattle.rules.specs.Greedy.{best, settled, stageCount, stageOf}
 use Rattle.judge.specs.Standing.{settledBy}
+use Rattle.reporter.specs.Outcome.{Outcome, markOf, Own}
 
--- the mark of a vertex after k stages: 254 absent, 255 waiting, otherwise the stage at which it settled
-unfoldable pub markAt : List ℕ → ℕ → ℕ → ℕ
-markAt t k v =
-    elim (present t v) [
-      | false ↦ 254
-      | true ↦ elim (isSettled (settled (pathsOf t) (present t) k v)) [ true ↦ stageOf (pathsOf t) (present t) v | false ↦ 255 ]
-    ]
+-- what k stages come to: the paths that the rules' stages settle, and the best compatible path of who waits
+abbrev pub after : List ℕ → ℕ → Outcome
+after t k =
+    let S = settled (pathsOf t) (present t) k in record { settled = S; stage = stageOf (pathsOf t) (present t); shows = best (pathsOf t) S }
 
 -- the mark before the first stage: "The destination is settled at stage 0"
 unfoldable pub startMark : (ℕ → Bool) → ℕ → ℕ
 startMark isPresent v = elim (eqb v 0) [ true ↦ 0 | false ↦ elim (isPresent v) [ true ↦ 255 | false ↦ 254 ] ]
 
--- a vertex shows no record or one of its own
-abbrev pub Own : List ℕ → ℕ → ℕ → Type 0
-Own t v i = (i ≡ 65535) ⊎ ((i < records t) × (ownerAt t i ≡ v))
-
 -- what stands after k stages
 pub record Stands (t : List ℕ) (k : ℕ) (marks shown : List ℕ) : Type 0 where
   pub manyMarks : length marks ≡ 64
   pub manyShown : length shown ≡ 64
-  pub marked : marks ≡ tabulate (markAt t k) 64
+  pub marked : marks ≡ tabulate (markOf t (after t k)) 64
   pub held : settledBy t marks shown ≡ settled (pathsOf t) (present t) k
   pub own : (v : ℕ) → Own t v (getD shown v 65535)
 

@@ -1,5 +1,5 @@
 -- One stage over the marks and records is one stage of the rules, and the count goes on exactly while a mark changes.
-use mathlib.Core.Path.{_≡_, sym, ap, _∙_, fun-ext}
+use mathlib.Core.Path.{_≡_, refl, sym, ap, _∙_, fun-ext}
 use mathlib.Core.Logic.{_≢_, inl}
 use mathlib.Core.Bool.{true, false}
 use mathlib.Core.List.{List, []}
@@ -19,9 +19,10 @@ use Rattle.laws.specs.GreedyLaws.{is-none, is-some, judged-path, settled-suc, s
 use Rattle.lists.specs.Search.{same}
 use Rattle.judge.specs.Standing.{isIn, heldPath, settledBy, bestRecord, entersWith, isJudged, shownAfter, markAfter}
 use Rattle.judge.specs.StandingLaws.{holds-record, holds-same, in-settled, out-unsettled, settled-holds}
-use Rattle.checker.specs.Settling.{markAt, Own, Stands, Waits}
+use Rattle.reporter.specs.Outcome.{markOf, Own}
+use Rattle.reporter.specs.OutcomeLaws.{mark-absent, mark-waits, mark-settled, mark-same}
+use Rattle.checker.specs.AfterStages.{after, Stands, Waits}
 use Rattle.checker.specs.BestLaws.{enters-judged, best-found, best-own}
-use Rattle.checker.specs.MarkLaws.{mark-here, mark-absent, mark-waits, mark-settled, mark-same}
 
 -- how a vertex comes through the stage after k
 
@@ -57,8 +58,11 @@ module _ (t : List ℕ) (e : refusal t ≡ none) (k : ℕ) where
 
 -- one stage over the marks and records
 
-module _ (t : List ℕ) (e : refusal t ≡ none) (k : ℕ) (marks shown : List ℕ) (st : Stands t k marks shown)
-    (slots : List (List ℕ)) (s : slots ≡ slotsOf t (min (records t) 1008)) where
+module _ {t : List ℕ} (e : refusal t ≡ none) {k : ℕ} {marks shown : List ℕ} (st : Stands t k marks shown)
+    {slots : List (List ℕ)} (s : slots ≡ slotsOf t (min (records t) 1008)) where
+  mark-here : (v d : ℕ) → v < 64 → getD marks v d ≡ markOf t (after t k) v
+  mark-here v d h = ap (λ (l : List ℕ). getD l v d) (st .marked) ∙ tabulate-at (markOf t (after t k)) 64 v d h
+
   abbrev sofar : Settled
   sofar = settled (pathsOf t) (present t) k
 
@@ -76,18 +80,18 @@ module _ (t : List ℕ) (e : refusal t ≡ none) (k : ℕ) (marks shown : List �
 
   -- who is judged
   module _ (v : ℕ) (h : v < 64) where
-    is-judged : markAt t k v ≡ 255 → isJudged marks v ≡ true
+    is-judged : markOf t (after t k) v ≡ 255 → isJudged marks v ≡ true
     unfolding isJudged
-    is-judged m = eq-eqb (getD marks v 254) 255 (mark-here st v 254 h ∙ m)
+    is-judged m = eq-eqb (getD marks v 254) 255 (mark-here v 254 h ∙ m)
 
-    not-judged : markAt t k v ≢ 255 → isJudged marks v ≡ false
+    not-judged : markOf t (after t k) v ≢ 255 → isJudged marks v ≡ false
     unfolding isJudged
-    not-judged m = ne-eqb (getD marks v 254) 255 (λ q. m (sym (mark-here st v 254 h) ∙ q))
+    not-judged m = ne-eqb (getD marks v 254) 255 (λ q. m (sym (mark-here v 254 h) ∙ q))
 
     -- what a vertex that is not judged keeps
-    keeps-mark : isJudged marks v ≡ false → markAfter t slots marks shown (suc k) v ≡ markAt t k v
+    keeps-mark : isJudged marks v ≡ false → markAfter t slots marks shown (suc k) v ≡ markOf t (after t k) v
     unfolding markAfter
-    keeps-mark j = rw (j, markAfter) (mark-here st v 254 h)
+    keeps-mark j = rw (j, markAfter) (mark-here v 254 h)
 
     keeps-shown : isJudged marks v ≡ false → shownAfter t slots marks shown v ≡ getD shown v 65535
     unfolding shownAfter
@@ -98,35 +102,35 @@ module _ (t : List ℕ) (e : refusal t ≡ none) (k : ℕ) (marks shown : List �
     unfolding shownAfter
     gets-shown j = rw (j, shownAfter)
 
-    waits-mark : isJudged marks v ≡ true → entersWith t marks (chosen v) ≡ false → markAfter t slots marks shown (suc k) v ≡ markAt t k v
+    waits-mark : isJudged marks v ≡ true → entersWith t marks (chosen v) ≡ false → markAfter t slots marks shown (suc k) v ≡ markOf t (after t k) v
     unfolding markAfter
-    waits-mark j q = rw (j, gets-shown j, q, markAfter) (mark-here st v 254 h)
+    waits-mark j q = rw (j, gets-shown j, q, markAfter) (mark-here v 254 h)
 
     enters-mark : isJudged marks v ≡ true → entersWith t marks (chosen v) ≡ true → markAfter t slots marks shown (suc k) v ≡ suc k
     unfolding markAfter
     enters-mark j q = rw (j, gets-shown j, q, markAfter)
 
   module _ (m : k ≤ stageCount (pathsOf t) (present t)) where
-    new-mark : (v : ℕ) → v < 64 → markAfter t slots marks shown (suc k) v ≡ markAt t (suc k) v
+    new-mark : (v : ℕ) → v < 64 → markAfter t slots marks shown (suc k) v ≡ markOf t (after t (suc k)) v
     unfolding isSettled
     new-mark v h = go (fate t e k v)
       where
-        go : Fate t e k v → markAfter t slots marks shown (suc k) v ≡ markAt t (suc k) v
+        go : Fate t e k v → markAfter t slots marks shown (suc k) v ≡ markOf t (after t (suc k)) v
         go (gone a q) =
-            keeps-mark v h (not-judged v h (λ z. omega (arith, mark-absent t k v a))) ∙ mark-absent t k v a ∙ sym (mark-absent t (suc k) v a)
+            keeps-mark v h (not-judged v h (λ z. omega (arith, mark-absent t (after t k) v a))) ∙ mark-absent t (after t k) v a ∙ sym (mark-absent t (after t (suc k)) v a)
         go (stays p a q) =
-            keeps-mark v h (not-judged v h (λ z. omega (arith, mark-settled t k v p a q, stage-small (pathsOf t) (present t) v)))
-            ∙ mark-settled t k v p a q
-            ∙ sym (mark-settled t (suc k) v p a (settled-stays (pathsOf t) (present t) k v p q))
+            keeps-mark v h (not-judged v h (λ z. omega (arith, mark-settled t (after t k) v p a q, stage-small (pathsOf t) (present t) v)))
+            ∙ mark-settled t (after t k) v p a q
+            ∙ sym (mark-settled t (after t (suc k)) v p a (settled-stays (pathsOf t) (present t) k v p q))
         go (waits a q j) =
-            waits-mark v h (is-judged v h (mark-waits t k v a q)) (chosen-enters v h ∙ ap isSettled j)
-            ∙ mark-waits t k v a q ∙ sym (mark-waits t (suc k) v a (after-judged t e k v h a q ∙ j))
+            waits-mark v h (is-judged v h (mark-waits t (after t k) v a q)) (chosen-enters v h ∙ ap isSettled j)
+            ∙ mark-waits t (after t k) v a q ∙ sym (mark-waits t (after t (suc k)) v a (after-judged t e k v h a q ∙ j))
         go (goesIn a q j) =
             let f = after-judged t e k v h a q ∙ j in
             let c = enters-counted (pathsOf t) (present t) k v _ m q f in
-            enters-mark v h (is-judged v h (mark-waits t k v a q)) (chosen-enters v h ∙ ap isSettled j)
+            enters-mark v h (is-judged v h (mark-waits t (after t k) v a q)) (chosen-enters v h ∙ ap isSettled j)
             ∙ sym (stage-entered (pathsOf t) (present t) k v _ (omega (arith, stages-most (pathsOf t) (present t))) q f)
-            ∙ sym (mark-settled t (suc k) v _ a f)
+            ∙ sym (mark-settled t (after t (suc k)) v _ a f)
 
     abbrev marksNext : List ℕ
     marksNext = tabulate (markAfter t slots marks shown (suc k)) 64
@@ -134,17 +138,17 @@ module _ (t : List ℕ) (e : refusal t ≡ none) (k : ℕ) (marks shown : List �
     abbrev shownNext : List ℕ
     shownNext = tabulate (shownAfter t slots marks shown) 64
 
-    mark-next : (v d : ℕ) → v < 64 → getD marksNext v d ≡ markAt t (suc k) v
+    mark-next : (v d : ℕ) → v < 64 → getD marksNext v d ≡ markOf t (after t (suc k)) v
     mark-next v d h = tabulate-at (markAfter t slots marks shown (suc k)) 64 v d h ∙ new-mark v h
 
     shown-next : (v : ℕ) → v < 64 → getD shownNext v 65535 ≡ shownAfter t slots marks shown v
     shown-next v h = tabulate-at (shownAfter t slots marks shown) 64 v 65535 h
 
-    is-in : (v : ℕ) → v < 64 → markAt t (suc k) v < 254 → isIn marksNext v ≡ true
+    is-in : (v : ℕ) → v < 64 → markOf t (after t (suc k)) v < 254 → isIn marksNext v ≡ true
     unfolding isIn
     is-in v h l = lt-ltb (getD marksNext v 255) 254 (omega (arith, mark-next v 255 h))
 
-    not-in : (v : ℕ) → v < 64 → 254 ≤ markAt t (suc k) v → isIn marksNext v ≡ false
+    not-in : (v : ℕ) → v < 64 → 254 ≤ markOf t (after t (suc k)) v → isIn marksNext v ≡ false
     unfolding isIn
     not-in v h l = le-ltb (getD marksNext v 255) 254 (omega (arith, mark-next v 255 h))
 
@@ -174,20 +178,20 @@ module _ (t : List ℕ) (e : refusal t ≡ none) (k : ℕ) (marks shown : List �
       where
         go : v < 64 → Fate t e k v → settledBy t marksNext shownNext v ≡ settled (pathsOf t) (present t) (suc k) v
         go h (gone a q) =
-            out-unsettled t marksNext shownNext v (not-in v h (omega (arith, mark-absent t (suc k) v a))) ∙ sym (after-gone t e k v h a q)
+            out-unsettled t marksNext shownNext v (not-in v h (omega (arith, mark-absent t (after t (suc k)) v a))) ∙ sym (after-gone t e k v h a q)
         go h (stays p a q) =
             let f = settled-stays (pathsOf t) (present t) k v p q in
-            in-settled t marksNext shownNext v (is-in v h (omega (arith, mark-settled t (suc k) v p a f, stage-small (pathsOf t) (present t) v)))
-            ∙ ap some (held-stays v p h q (keeps-shown v h (not-judged v h (λ z. omega (arith, mark-settled t k v p a q, stage-small (pathsOf t) (present t) v)))))
+            in-settled t marksNext shownNext v (is-in v h (omega (arith, mark-settled t (after t (suc k)) v p a f, stage-small (pathsOf t) (present t) v)))
+            ∙ ap some (held-stays v p h q (keeps-shown v h (not-judged v h (λ z. omega (arith, mark-settled t (after t k) v p a q, stage-small (pathsOf t) (present t) v)))))
             ∙ sym f
         go h (waits a q j) =
             let f = after-judged t e k v h a q ∙ j in
-            out-unsettled t marksNext shownNext v (not-in v h (omega (arith, mark-waits t (suc k) v a f))) ∙ sym f
+            out-unsettled t marksNext shownNext v (not-in v h (omega (arith, mark-waits t (after t (suc k)) v a f))) ∙ sym f
         go h (goesIn a q j) =
             let f = after-judged t e k v h a q ∙ j in
-            in-settled t marksNext shownNext v (is-in v h (omega (arith, mark-settled t (suc k) v _ a f, stage-small (pathsOf t) (present t) v)))
+            in-settled t marksNext shownNext v (is-in v h (omega (arith, mark-settled t (after t (suc k)) v _ a f, stage-small (pathsOf t) (present t) v)))
             ∙ ap some (held-enters v h (λ z. none≢some (rw z at q) (settled-origin (pathsOf t) (present t) k))
-            (gets-shown v h (is-judged v h (mark-waits t k v a q))))
+            (gets-shown v h (is-judged v h (mark-waits t (after t k) v a q))))
             ∙ sym f
 
     -- the stage leaves what the rules' next stage leaves
@@ -195,7 +199,7 @@ module _ (t : List ℕ) (e : refusal t ≡ none) (k : ℕ) (marks shown : List �
     stands-next = record {
       manyMarks = tabulate-length (markAfter t slots marks shown (suc k)) 64;
       manyShown = tabulate-length (shownAfter t slots marks shown) 64;
-      marked = tabulate-ext (markAfter t slots marks shown (suc k)) (markAt t (suc k)) 64 new-mark;
+      marked = tabulate-ext (markAfter t slots marks shown (suc k)) (markOf t (after t (suc k))) 64 new-mark;
       held = fun-ext held-next;
       own = own-next;
     }
@@ -216,7 +220,7 @@ module _ (t : List ℕ) (e : refusal t ≡ none) (k : ℕ) (marks shown : List �
     pub waits-next : Waits t k shownNext
     waits-next = record {
       shows = λ v a q. let h = shaped t e .range v a in
-          ap (pathAt t) (shown-next v h ∙ gets-shown v h (is-judged v h (mark-waits t k v a q))) ∙ chosen-path v h;
+          ap (pathAt t) (shown-next v h ∙ gets-shown v h (is-judged v h (mark-waits t (after t k) v a q))) ∙ chosen-path v h;
     }
 
     -- nobody entered where the marks are the same
@@ -232,17 +236,18 @@ module _ (t : List ℕ) (e : refusal t ≡ none) (k : ℕ) (marks shown : List �
         let a = settled-present (pathsOf t) (present t) (shaped t e .origin) (suc k) v (new .0) f in
         absurd (omega (
           arith,
-          sym (mark-here st v 0 h) ∙ ap (λ (l : List ℕ). getD l v 0) q ∙ mark-next v 0 h,
-          mark-waits t k v a old,
-          mark-settled t (suc k) v (new .0) a f,
+          sym (mark-here v 0 h) ∙ ap (λ (l : List ℕ). getD l v 0) q ∙ mark-next v 0 h,
+          mark-waits t (after t k) v a old,
+          mark-settled t (after t (suc k)) v (new .0) a f,
           stage-small (pathsOf t) (present t) v,
         )))
 
     pub other-busy : (marks ≡ marksNext → ⊥) → quiet (pathsOf t) (present t) k ≡ false
     other-busy f =
         by-test (quiet (pathsOf t) (present t) k)
-        (λ q. absurd (f (st .marked ∙ tabulate-ext (markAt t k) (markAfter t slots marks shown (suc k)) 64 (λ v h.
-        mark-same t k (suc k) v (sym (settled-suc (pathsOf t) (present t) k v h ∙ quiet-stage (pathsOf t) (present t) k v q h))
+        (λ q. absurd (f (st .marked ∙ tabulate-ext (markOf t (after t k)) (markAfter t slots marks shown (suc k)) 64 (λ v h.
+        mark-same t (after t k) (after t (suc k)) v
+        (sym (settled-suc (pathsOf t) (present t) k v h ∙ quiet-stage (pathsOf t) (present t) k v q h)) refl
         ∙ sym (new-mark v h)))))
         (λ q. q)
 
