@@ -16,7 +16,7 @@ module _ (t : List ℕ) (a : Answer) (rows ring before after : List ℕ) (n : �
     (checked : Checked t (replicate 1024 0) (replicate 64 0) a rows ring) where
   text-is : textOf (meaning (a .verdict)) (numbers a) rows ring ≡ checkText t
   text-is =
-      rw (checked .0, checked .1 .0, checked .1 .1 .0, checked .1 .1 .1)
+      rw (checked .verdict, checked .numbers, checked .rows, checked .ring)
       (check-text t (replicate 1024 0) (replicate 64 0) (length-replicate {A = ℕ} 1024 0) (length-replicate {A = ℕ} 64 0))
 
   -- what the check's answer prints is the table's text

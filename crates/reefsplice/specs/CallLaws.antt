@@ -67,15 +67,15 @@ module _ (t rows ring lent : List ℕ) where
 
     told : checkRefusalForC t rows ring lent ≡ checkRefusalIn (a .verdict)
     unfolding checkVerdict
-    told = same ∙ sym (refusal-in (a .verdict) (checkRefusal t rows ring) _ (checked .0))
+    told = same ∙ sym (refusal-in (a .verdict) (checkRefusal t rows ring) _ (checked .verdict))
 
     rows-are : rowsNow ≡ rowsForC t rows ring lent
     unfolding rowsForC rowsAfter
-    rows-are = checked .1 .1 .0 ∙ ap (λ (x : Option Refusal). unless x (report t .rows) rows) (sym same)
+    rows-are = checked .rows ∙ ap (λ (x : Option Refusal). unless x (report t .rows) rows) (sym same)
 
     ring-is : ringNow ≡ ringForC t rows ring lent
     unfolding ringForC ringAfter
-    ring-is = checked .1 .1 .1 ∙ ap (λ (x : Option Refusal). unless x (report t .ring) ring) (sym same)
+    ring-is = checked .ring ∙ ap (λ (x : Option Refusal). unless x (report t .ring) ring) (sym same)
 
     -- with n vertices in the ring
     check-accepted : (n : ℕ) → checkRefusalIn (a .verdict) ≡ none → ringLengthIn (a .verdict) ≡ n
@@ -86,7 +86,7 @@ module _ (t rows ring lent : List ℕ) where
     check-accepted n e f now q =
         let none-left = told ∙ e in
         let all : n ∷ a .settled ∷ a .stuck ∷ a .stages ∷ a .longest ∷ [] ≡ checkNumbers t rows ring
-        = ap (λ (x : ℕ). x ∷ a .settled ∷ a .stuck ∷ a .stages ∷ a .longest ∷ []) (sym f) ∙ checked .1 .0 in
+        = ap (λ (x : ℕ). x ∷ a .settled ∷ a .stuck ∷ a .stages ∷ a .longest ∷ []) (sym f) ∙ checked .numbers in
         (accepted-code _ none-left, (rows-are, (ring-is, q ∙ ap numberBytes all ∙ renewed _ _ lent none-left)))
 
     pub check-complete : a .verdict ≡ verdict.Complete → (now : List ℕ)
