@@ -9,17 +9,12 @@ use crate::settle::settle;
 use answer::Answer;
 use reader::Reading;
 use reader::read;
+use reporter::OTHER_LENGTH;
+use reporter::RING;
+use reporter::ROWS;
 use reporter::refused;
 use reporter::report;
 use table_facts::slots_of;
-
-// The lengths of the lent buffers: 16 bytes for each of 64 vertices, and one.
-const ROWS: usize = 1024;
-
-const RING: usize = 64;
-
-// The refusal of a buffer of another length.
-const OTHER_LENGTH: u8 = 1;
 
 // The check of an accepted table.
 fn check_accepted(table: &[u8], rows: &mut [u8], ring: &mut [u8]) -> Answer

@@ -8,22 +8,17 @@ ghost use Rattle.lists.specs.Fill.{tabulate};
 ghost use Rattle.rules.specs.Table.{records, slotsOf};
 ghost use Rattle.rules.specs.Refusals.{refusal};
 ghost use Rattle.checker.specs.AfterStages.{startMark, Ended};
+use judge::ABSENT;
+use judge::NO_RECORD;
 use judge::Standing;
+use judge::VERTICES;
+use judge::WAITING;
 use judge::stage;
 use slices::same_parts;
 use table_facts::present_in;
 
-// The marks before the first stage: vertex 0 is settled at stage 0, another one is absent or waits.
+// The mark of vertex 0: it is settled at stage 0.
 const ORIGIN: u8 = 0;
-
-const ABSENT: u8 = 254;
-
-const WAITING: u8 = 255;
-
-// The record of a vertex that shows none.
-const NO_RECORD: u16 = 65535;
-
-const VERTICES: usize = 64;
 
 // The marks and records after the last stage, and how many stages counted.
 pub(crate) struct Settling {

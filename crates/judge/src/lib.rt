@@ -11,16 +11,16 @@ use slices::same_parts;
 use slices::wide;
 
 // A mark below this one is the stage at which the vertex settled.
-const ABSENT: u8 = 254;
+pub const ABSENT: u8 = 254;
 
 // The mark of a present vertex that is not settled.
-const WAITING: u8 = 255;
+pub const WAITING: u8 = 255;
 
 // An empty slot, and the record of a vertex that shows none.
-const NO_RECORD: u16 = 65535;
+pub const NO_RECORD: u16 = 65535;
 
 // How many vertices there are, and how many slots each has.
-const VERTICES: usize = 64;
+pub const VERTICES: usize = 64;
 
 const SLOTS: usize = 16;
 

@@ -1,12 +1,16 @@
 -- What an answer and the lent buffers say of a refusal or of a report, and that they say it in one way.
 use mathlib.Core.Path.{_≡_, refl, sym, ap, _∙_}
 use mathlib.Core.Logic.{_≢_}
-use mathlib.Core.Bool.{Bool, _||_}
-use mathlib.Core.List.{List}
+use mathlib.Core.Bool.{Bool, false, _||_}
+use mathlib.Core.List.{List, []}
 use mathlib.Core.Option.{Option, none, some}
-use Prim.Native.Nat.{ℕ, suc, zero}
-use lib.ListN.{length, replicate}
-use Rattle.lists.specs.Fill.{blocks, padded}
+use Prim.Native.Nat.{ℕ, suc, zero, _<_}
+use lib.ListN.{getD, length, replicate}
+use borrow.Author.Tests.{eq-eqb, not-true}
+use Rattle.lists.specs.Search.{anyBelow}
+use Rattle.lists.specs.SearchLaws.{count-any, none-below}
+use Rattle.lists.specs.FillLaws.{tabulate-at}
+use Rattle.lists.specs.Fill.{blocks, padded, tabulate}
 use Rattle.rules.specs.Table.{longest}
 use Rattle.rules.specs.Refusals.{Refusal, refusedIf}
 use Rattle.rules.specs.Report.{Report, numbersOf}
@@ -19,8 +23,9 @@ use Rattle.answer.specs.declared.Verdict.the-variants as told
 use Rattle.answer.specs.Meaning.{meaning, ringLengthIn}
 use Rattle.answer.specs.Meaning as says
 use Rattle.answer.specs.MeaningLaws.{answer-tells}
-use Rattle.ring.specs.Ring.{Ringed}
-use Rattle.reporter.specs.Shown.{countBetween, nextNumbers, shownReport, shownRing, shownRow, stuckMarks}
+use Rattle.ring.specs.Ring.{Ringed, nextIn, ringIn}
+use Rattle.ring.specs.FollowLaws.{ring-unmarked}
+use Rattle.reporter.specs.Shown.{countBetween, isBetween, nextNumbers, shownReport, shownRing, shownRow, stuckMarks}
 
 -- the answer, the rows and the ring, where a call is refused or else finds a report
 pub record Reported (refusal : Option Refusal) (found : Report) (lentRows lentRing : List ℕ) (answer : Answer) (rowsNow ringNow : List ℕ) : Type 0 where
@@ -94,6 +99,20 @@ pub ring-told : (t marks shown : List ℕ) {next ringNow : List ℕ} {stuck : Li
     → Ringed stuck next size count ringNow
     → Ringed (stuckMarks marks) (nextNumbers t (stuckMarks marks) shown) size count ringNow
 ring-told t marks shown p q r = rw (← p, ← q) r
+
+-- where nobody is stuck there is none
+pub ring-none : (marks next : List ℕ) {size : ℕ} {ringNow : List ℕ}
+    → countBetween 255 255 marks ≡ 0
+    → ringNow ≡ padded size 255 []
+    → Ringed (stuckMarks marks) next size 0 ringNow
+unfolding stuckMarks countBetween ringIn
+ring-none marks next {size} e q =
+    let nobody : anyBelow (isBetween 255 255 marks) 64 ≡ false
+    = not-true _ (sym (count-any (isBetween 255 255 marks) 64) ∙ eq-eqb _ 0 e) in
+    let unmarked : (v : ℕ) → v < 64 → getD (tabulate (isBetween 255 255 marks) 64) v false ≡ false
+    = λ v h. tabulate-at (isBetween 255 255 marks) 64 v false h ∙ none-below (isBetween 255 255 marks) 64 nobody v h in
+    let empty = ring-unmarked (λ v. getD (tabulate (isBetween 255 255 marks) 64) v false) (nextIn next) unmarked in
+    record { count = sym (ap length empty); ring = q ∙ ap (padded size 255) (sym empty) }
 
 -- the report of marks and records
 module _ (t marks shown : List ℕ) (stages : ℕ) (rows ring : List ℕ) (long : length rows ≡ 1024) (many : length ring ≡ 64) where

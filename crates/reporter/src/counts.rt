@@ -2,6 +2,7 @@
 ghost use mathlib.Core.Path.{_≡_};
 ghost use lib.ListN.{length};
 ghost use Rattle.reporter.specs.Shown.{countBetween};
+use crate::VERTICES;
 use slices::is_outside;
 
 // How many vertices but 0 have marks from low to high.
@@ -11,7 +12,7 @@ pub(crate) fn count_between(low: u8, high: u8, marks: &[u8]) -> u8
 {
     let mut count = 0;
     let mut v = 1;
-    while v < 64 {
+    while v < VERTICES {
         let here = v;
         v += 1;
         if is_outside(low, high, marks[here]) {

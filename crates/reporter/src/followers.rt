@@ -2,11 +2,12 @@
 ghost use mathlib.Core.Path.{_≡_};
 ghost use lib.ListN.{length};
 ghost use Rattle.ring.specs.Ring.{Ringed};
-ghost use Rattle.reporter.specs.Shown.{nextFrom, nextNumbers, stuckMarks};
+ghost use Rattle.reporter.specs.Shown.{countBetween, nextFrom, nextNumbers, stuckMarks};
+use crate::STUCK;
+use crate::VERTICES;
 use record_fields::next_at;
 use ring::find_ring;
-
-const STUCK: u8 = 255;
+use slices::fill_padded;
 
 // Which vertices are stuck; 0 never is.
 fn stuck_in(marks: &[u8]) -> [bool; 64]
@@ -15,7 +16,7 @@ fn stuck_in(marks: &[u8]) -> [bool; 64]
 {
     let mut stuck = [false; 64];
     let mut v = 1;
-    while v < 64 {
+    while v < VERTICES {
         stuck[v] = marks[v] == STUCK;
         v += 1;
     }
@@ -39,18 +40,28 @@ fn next_in(table: &[u8], stuck: &[bool], shown: &[u16]) -> [u8; 64]
 {
     let mut next = [0; 64];
     let mut v = 0;
-    while v < 64 {
+    while v < VERTICES {
         next[v] = next_from(table, stuck[v], shown[v]);
         v += 1;
     }
     next
 }
 
-// Writes the ring, then 255, and answers its length.
-pub(crate) fn write_ring(table: &[u8], marks: &[u8], shown: &[u16], ring: &mut [u8]) -> u8
-    requires { ⌜ (length (now marks) ≡ 64) × (length (now shown) ≡ 64) ⌝ }
+// Writes the ring, then 255, and answers its length; where nobody waits there is none to look for.
+pub(crate) fn write_ring(
+    table: &[u8],
+    marks: &[u8],
+    shown: &[u16],
+    waiting: u8,
+    ring: &mut [u8],
+) -> u8
+    requires { ⌜ (length (now marks) ≡ 64) × (length (now shown) ≡ 64) × (waiting ≡ countBetween 255 255 (now marks)) ⌝ }
     ensures { λ r. ⌜ Ringed (stuckMarks (now (marks .entry))) (nextNumbers (now (table .entry)) (stuckMarks (now (marks .entry))) (now (shown .entry))) (length (now (ring .entry))) r (now (ring .exit)) ⌝ }
 {
+    if waiting == 0 {
+        fill_padded(ring, &marks[..0]);
+        return 0;
+    }
     let stuck = stuck_in(marks);
     let next = next_in(table, &stuck, shown);
     find_ring(&stuck, &next, ring)

@@ -14,17 +14,19 @@ use answer::Verdict;
 use table_facts::longest_hops;
 
 // The lengths of the lent buffers: 16 bytes for each of 64 vertices, and one.
-const ROWS: usize = 1024;
+pub const ROWS: usize = 1024;
 
-const RING: usize = 64;
+pub const RING: usize = 64;
 
 // The refusal of a buffer of another length.
-const OTHER_LENGTH: u8 = 1;
+pub const OTHER_LENGTH: u8 = 1;
 
 // The last mark that is a stage, and the mark of a stuck vertex.
 const LAST_STAGE: u8 = 253;
 
-const STUCK: u8 = 255;
+pub(crate) const STUCK: u8 = 255;
+
+pub(crate) const VERTICES: usize = 64;
 
 // A refusal's counts are all 0.
 pub fn refused(number: u8, place: usize) -> Answer
@@ -68,11 +70,12 @@ pub fn report(
         return refused(OTHER_LENGTH, 0);
     }
     write_rows(table, &marks, &shown, rows);
-    let count = write_ring(table, &marks, &shown, ring);
+    let waiting = count_between(STUCK, STUCK, &marks);
+    let count = write_ring(table, &marks, &shown, waiting, ring);
     Answer {
         verdict: verdict_of(count),
         settled: count_between(0, LAST_STAGE, &marks),
-        stuck: count_between(STUCK, STUCK, &marks),
+        stuck: waiting,
         stages,
         longest: longest_hops(table),
     }

@@ -5,6 +5,7 @@ ghost use lib.ListN.{length};
 ghost use Rattle.lists.specs.Fill.{blocks};
 ghost use Rattle.rules.specs.Report.{rowBytes};
 ghost use Rattle.reporter.specs.Shown.{shownRow};
+use crate::VERTICES;
 use record_fields::path_at;
 use record_fields::rank_at;
 use slices::fill_padded;
@@ -39,7 +40,7 @@ pub(crate) fn write_rows(table: &[u8], marks: &[u8], shown: &[u16], rows: &mut [
 {
     write_row(&mut rows[..16], 0, 0, b"\0");
     let mut v = 1;
-    while v < 64 {
+    while v < VERTICES {
         let at = v * 16;
         let end = at + 16;
         let i = shown[v] as usize;

@@ -1,12 +1,21 @@
 -- The ring depends on where stuck vertices lead and on nothing else.
 use mathlib.Core.Path.{_≡_, refl, ap, _∙_}
-use mathlib.Core.Bool.{Bool, true}
+use mathlib.Core.Bool.{Bool, true, false}
 use mathlib.Core.List.{List, [], _∷_, _++_}
-use Prim.Native.Nat.{ℕ, zero, suc}
+use Prim.Native.Nat.{ℕ, zero, suc, _<_}
+use native.Mathlib.Omega.{arith}
 use Rattle.lists.specs.Search.{elem, firstFrom}
 use Rattle.lists.specs.SearchLaws.{first-found}
-use Rattle.lists.specs.Tests.{by-test, by-option}
+use Rattle.lists.specs.Tests.{by-test, by-option, true≢}
 use Rattle.rules.specs.Greedy.{closedPart, turned, ringFrom}
+
+-- where none is stuck there is no ring
+pub ring-unmarked : (stuck : ℕ → Bool) (next : ℕ → ℕ) → ((v : ℕ) → v < 64 → stuck v ≡ false) → ringFrom stuck next ≡ []
+unfolding ringFrom
+ring-unmarked stuck next f =
+    by-option (firstFrom stuck 0 64)
+    (λ q. rw (q, ringFrom))
+    (λ v q. let found = first-found stuck 0 64 v q in absurd (true≢ (found .passes) (f v (omega (arith, found .under)))))
 
 -- two ways to follow that agree at stuck vertices, and lead from stuck to stuck
 module _ (stuck : ℕ → Bool) (f g : ℕ → ℕ)

@@ -8,14 +8,14 @@ use native.Mathlib.Omega.{arith}
 use native.Mathlib.Nat.{not-suc-le-zero}
 use native.Mathlib.Numerals.{add-one}
 use lib.ListN.{length, getD, take, drop, set, drop-of-length-le, length-append, length-set, length-take, length-drop, List·getD-eq-default}
-use lib.Seq.{drop-cons, length-take-le, take-suc-set}
+use lib.Seq.{drop-cons, drop-at, length-take-le, take-at, take-suc-set}
 use borrow.Author.Tests.{eq-eqb, ne-eqb}
 use Rattle.lists.specs.Search.{elem, firstFrom}
 use Rattle.lists.specs.SearchLaws.{first-found, finds-passing, search-hit, search-next, search-end}
 use Rattle.lists.specs.Tests.{by-test, by-equal, by-less, by-option, true≢}
 use Rattle.lists.specs.Parts.{part-to-end, rest-of-first}
 use Rattle.lists.specs.Fill.{padded}
-use Rattle.lists.specs.FillLaws.{padded-length, padded-append}
+use Rattle.lists.specs.FillLaws.{padded-length, padded-append, padded-tabulate, tabulate-take}
 use Rattle.lists.specs.ListLaws.{elem-cons, elem-nil, elem-at, elem-place, getD-within}
 use Rattle.rules.specs.Greedy.{fromVertex, beforeVertex, closedPart, lowestOf, turned, ringFrom}
 use Rattle.laws.specs.RingLaws.{from-place}
@@ -229,20 +229,33 @@ module _ (l : List ℕ) where
       ap length turned-is ∙ length-append (drop k l) (take k l)
       ∙ omega (arith, length-drop k l, length-take k l, place-most (lowestOf l) l)
 
--- the turned list written to n places: first the part from the lowest vertex on, and behind it, from `done` on, the part before that
-pub turned-written : (n : ℕ) (l : List ℕ) (k done : ℕ) (once both : List ℕ)
-    → k ≡ placeIn (lowestOf l) l
-    → done ≡ min (length l - k) n
-    → once ≡ padded n 255 (take (length l - k) (drop k l))
-    → both ≡ padded (length (take (length once - done) (drop done once))) 255 (take k l)
-    → take done once ++ (both ++ drop (length once - done) (drop done once)) ≡ padded n 255 (turned l)
-turned-written n l k done once both p q e f =
-    let long : length once ≡ n = ap length e ∙ padded-length 255 n _ in
-    let left = length-drop done once in
-    let count : length (take (length once - done) (drop done once)) ≡ n - done = length-take (length once - done) (drop done once) ∙ omega arith in
-    let past : drop (length once - done) (drop done once) ≡ [] = drop-of-length-le (drop done once) {i = length once - done} (omega arith) in
-    rw (past, append-nil, f, count, e, part-to-end l k)
-    (padded-append 255 n (drop k l) (take k l) done (q ∙ rw (length-drop k l)) ∙ rw (turned-is l, p))
+-- the turned list written to a buffer: first the part from the lowest vertex on, and behind it, from `done` on, the part before that
+module _ (buffer l : List ℕ) (k done : ℕ) (first second : List ℕ) where
+  abbrev once : List ℕ
+  once = first ++ drop done buffer
+
+  pub turned-written : k ≡ placeIn (lowestOf l) l
+      → done ≡ min (length l - k) (length buffer)
+      → first ≡ padded (length (take done buffer)) 255 (take (length l - k) (drop k l))
+      → second ≡ padded (length (take (length once - done) (drop done once))) 255 (take k l)
+      → take done once ++ (second ++ drop (length once - done) (drop done once)) ≡ padded (length buffer) 255 (turned l)
+  turned-written p q e f =
+      let n = length buffer in
+      let front : length (take done buffer) ≡ done = length-take-le done buffer (omega arith) in
+      let long : length first ≡ done = ap length e ∙ padded-length 255 _ _ ∙ front in
+      let head : take done once ≡ first = take-at first (drop done buffer) done long in
+      let rest : drop done once ≡ drop done buffer = drop-at first (drop done buffer) done long in
+      let whole : length once ≡ n = length-append first (drop done buffer) ∙ omega (arith, length-drop done buffer) in
+      let count : length (take (n - done) (drop done buffer)) ≡ n - done
+      = length-take (n - done) (drop done buffer) ∙ omega (arith, length-drop done buffer) in
+      let past : drop (n - done) (drop done buffer) ≡ []
+      = drop-of-length-le (drop done buffer) {i = n - done} (omega (arith, length-drop done buffer)) in
+      let written : first ≡ take done (padded n 255 (drop k l))
+      = e ∙ rw (front, part-to-end l k, padded-tabulate 255 done (drop k l), padded-tabulate 255 n (drop k l))
+      (sym (tabulate-take (λ i. getD (drop k l) i 255) n done (omega arith))) in
+      let after : second ≡ padded (n - done) 255 (take k l) = f ∙ rw (rest, whole, count) in
+      rw (head, rest, whole, past, append-nil, written, after)
+      (padded-append 255 n (drop k l) (take k l) done (q ∙ rw (length-drop k l)) ∙ rw (turned-is l, p))
 
 -- the lowest marked vertex
 

@@ -99,7 +99,7 @@ fn write_turned(ring: &mut [u8], part: &[u8])
 {
     let k = lowest_place(part);
     let done = at_most(part.len() - k, ring.len());
-    fill_padded(ring, &part[k..]);
+    fill_padded(&mut ring[..done], &part[k..]);
     fill_padded(&mut ring[done..], &part[..k]);
 }
 

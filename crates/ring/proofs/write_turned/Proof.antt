@@ -1,6 +1,7 @@
 -- `ring::write_turned` meets its contract: the two fillings are the turned list, padded.
 -- Assumes nothing.
 use mathlib.Core.Path.{sym}
+use native.Mathlib.Omega.{arith}
 use borrow.Author.Needs.{needs}
 use lib.Seq.{length-take-le}
 use Rattle.ring.specs.WalkLaws.{place-most, turned-written}
@@ -15,6 +16,12 @@ sub-at-most c = rw (c .lowest-place .ensures) (place-most _ _)
 
 at-most-requires : tie.Need-at-most-requires
 at-most-requires c κs = search needs
+
+slice-relend-prefix-fill-padded : tie.Need-slice-relend-prefix-fill-padded
+slice-relend-prefix-fill-padded c = search needs
+
+slice-aggregate-fill-padded : tie.Need-slice-aggregate-fill-padded
+slice-aggregate-fill-padded c = sym (length-take-le _ _ (omega arith))
 
 sub-fill-padded : tie.Need-sub-fill-padded
 sub-fill-padded c = rw (c .before .before .lowest-place .ensures) (place-most _ _)
@@ -37,8 +44,8 @@ part-fill-padded-start-2 c = search needs
 part-fill-padded-end-2 : tie.Need-part-fill-padded-end-2
 part-fill-padded-end-2 c = search needs
 
-slice-aggregate-fill-padded : tie.Need-slice-aggregate-fill-padded
-slice-aggregate-fill-padded c =
+slice-aggregate-fill-padded-2 : tie.Need-slice-aggregate-fill-padded-2
+slice-aggregate-fill-padded-2 c =
     let at-done = c .before .before .before .before .before .before .before in
     sym (length-take-le _ _ (rw (at-done .before .lowest-place .ensures) (place-most _ _)))
 
@@ -59,6 +66,6 @@ returns c =
 pub write-turned-spec : {M : Type 1} → statement M
 write-turned-spec =
     tie.close
-    (tie.spec lowest-place-requires sub-at-most at-most-requires sub-fill-padded part-fill-padded-start part-fill-padded-end
-    fill-padded-requires sub-fill-padded-2 part-fill-padded-start-2 part-fill-padded-end-2 slice-aggregate-fill-padded
-    fill-padded-requires-2 same-length returns)
+    (tie.spec lowest-place-requires sub-at-most at-most-requires slice-relend-prefix-fill-padded slice-aggregate-fill-padded
+    sub-fill-padded part-fill-padded-start part-fill-padded-end fill-padded-requires sub-fill-padded-2 part-fill-padded-start-2
+    part-fill-padded-end-2 slice-aggregate-fill-padded-2 fill-padded-requires-2 same-length returns)
