@@ -12,7 +12,7 @@ use Rattle.answer.specs.declared.Answer.{Answer}
 use Rattle.answer.specs.Meaning.{meaning}
 use Rattle.answer.specs.Meaning as says
 use Rattle.answer.specs.MeaningLaws.{answer-tells}
-use Rattle.reporter.specs.Shown.{shownReport}
+use Rattle.reporter.specs.Showing.{shownReport}
 use Rattle.reporter.specs.Reported.{Reported, lentRefusal, refusalAnswer, reported-refused}
 use Rattle.checker.specs.AfterStages.{Ended}
 use Rattle.checker.specs.EndedLaws.{ended-report}

@@ -12,7 +12,7 @@ use Rattle.laws.specs.ShapeLaws.{shaped}
 use Rattle.laws.specs.GreedyLaws.{settled-origin, settled-present, stage-small, stage-origin}
 use Rattle.laws.specs.RingLaws.{stuck-next}
 use Rattle.judge.specs.StandingLaws.{holds-record, settled-holds}
-use Rattle.reporter.specs.Shown.{shownReport}
+use Rattle.reporter.specs.Showing.{shownReport}
 use Rattle.reporter.specs.Outcome.{outcomeRow, outcomeReport, Fair, Tells}
 use Rattle.reporter.specs.OutcomeLaws.{tells-report}
 use Rattle.checker.specs.AfterStages.{after, Ended}

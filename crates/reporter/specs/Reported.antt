@@ -25,7 +25,7 @@ use Rattle.answer.specs.Meaning as says
 use Rattle.answer.specs.MeaningLaws.{answer-tells}
 use Rattle.ring.specs.Ring.{Ringed, nextIn, ringIn}
 use Rattle.ring.specs.FollowLaws.{ring-unmarked}
-use Rattle.reporter.specs.Shown.{countBetween, isBetween, nextNumbers, shownReport, shownRing, shownRow, stuckMarks}
+use Rattle.reporter.specs.Showing.{countBetween, isBetween, nextNumbers, shownReport, shownRing, shownRow, stuckMarks}
 
 -- the answer, the rows and the ring, where a call is refused or else finds a report
 pub record Reported (refusal : Option Refusal) (found : Report) (lentRows lentRing : List ℕ) (answer : Answer) (rowsNow ringNow : List ℕ) : Type 0 where

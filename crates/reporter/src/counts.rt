@@ -1,7 +1,7 @@
 // How many vertices are settled or stuck, from their marks.
 ghost use mathlib.Core.Path.{_≡_};
 ghost use lib.ListN.{length};
-ghost use Rattle.reporter.specs.Shown.{countBetween};
+ghost use Rattle.reporter.specs.Showing.{countBetween};
 use crate::VERTICES;
 use slices::is_outside;
 

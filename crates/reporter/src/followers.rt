@@ -2,7 +2,7 @@
 ghost use mathlib.Core.Path.{_≡_};
 ghost use lib.ListN.{length};
 ghost use Rattle.ring.specs.Ring.{Ringed};
-ghost use Rattle.reporter.specs.Shown.{countBetween, nextFrom, nextNumbers, stuckMarks};
+ghost use Rattle.reporter.specs.Showing.{countBetween, nextFrom, nextNumbers, stuckMarks};
 use crate::STUCK;
 use crate::VERTICES;
 use record_fields::next_at;

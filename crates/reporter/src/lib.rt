@@ -4,7 +4,7 @@ mod followers;
 mod rows;
 
 ghost use mathlib.Core.Path.{_≡_};
-ghost use Rattle.reporter.specs.Shown.{shownReport};
+ghost use Rattle.reporter.specs.Showing.{shownReport};
 ghost use Rattle.reporter.specs.Reported.{Found, Reported, lentRefusal, refusalAnswer};
 use crate::counts::count_between;
 use crate::followers::write_ring;

@@ -4,11 +4,14 @@ ghost use Prim.Native.Nat.{_≤_, pred};
 ghost use lib.ListN.{length};
 ghost use Rattle.lists.specs.Fill.{blocks};
 ghost use Rattle.rules.specs.Report.{rowBytes};
-ghost use Rattle.reporter.specs.Shown.{shownRow};
+ghost use Rattle.reporter.specs.Showing.{shownRow};
 use crate::VERTICES;
 use record_fields::path_at;
 use record_fields::rank_at;
 use slices::fill_padded;
+
+// How many bytes a row has.
+const ROW: usize = 16;
 
 // The hops of a path, 0 where there is none.
 fn hops_of(path: &[u8]) -> u8
@@ -38,11 +41,11 @@ pub(crate) fn write_rows(table: &[u8], marks: &[u8], shown: &[u16], rows: &mut [
     requires { ⌜ (length (now marks) ≡ 64) × (length (now shown) ≡ 64) × (length (now rows) ≡ 1024) ⌝ }
     ensures { λ r. ⌜ now (rows .exit) ≡ blocks (shownRow (now (table .entry)) (now (marks .entry)) (now (shown .entry))) 64 ⌝ }
 {
-    write_row(&mut rows[..16], 0, 0, b"\0");
+    write_row(&mut rows[..ROW], 0, 0, b"\0");
     let mut v = 1;
     while v < VERTICES {
-        let at = v * 16;
-        let end = at + 16;
+        let at = v * ROW;
+        let end = at + ROW;
         let i = shown[v] as usize;
         write_row(
             &mut rows[at..end],

@@ -34,7 +34,7 @@ place-of-requires : tie.Need-place-of-requires Inv-loop μ-loop
 place-of-requires c κs = search needs
 
 same-length : tie.Need-same-length Inv-loop μ-loop
-same-length c = c .before .before .before .before .loop .inv .1 .long
+same-length c = let at-loop = c .before .before .before .before in at-loop .loop .inv .1 .long
 
 returns : tie.Need-returns Inv-loop μ-loop
 returns c =

@@ -4,8 +4,8 @@ use mathlib.Core.Path.{_≡_}
 use Prim.Native.Nat.{_≤_, _-_}
 use native.Mathlib.Omega.{arith}
 use Rattle.lists.specs.Search.{countBelow}
-use Rattle.reporter.specs.Shown.{isBetween, countBetween}
-use Rattle.reporter.specs.ShownLaws.{count-none, count-skip, count-more, count-small}
+use Rattle.reporter.specs.Showing.{isBetween, countBetween}
+use Rattle.reporter.specs.ShowingLaws.{count-none, count-skip, count-more, count-small}
 use Rattle.reporter.proofs.counts.count_between.Statement.{statement}
 use Rattle.reporter.proofs.counts.count_between.Tie as tie
 

@@ -1,7 +1,7 @@
 -- `reporter::followers::next_from` meets its contract: two cases.
 -- Assumes nothing.
 use borrow.Author.Needs.{needs}
-use Rattle.reporter.specs.ShownLaws.{next-stuck, next-other}
+use Rattle.reporter.specs.ShowingLaws.{next-stuck, next-other}
 use Rattle.reporter.proofs.followers.next_from.Statement.{statement}
 use Rattle.reporter.proofs.followers.next_from.Tie as tie
 

@@ -6,8 +6,8 @@ use native.Mathlib.Omega.{arith}
 use lib.ListN.{length, take, length-set, length-replicate}
 use Rattle.lists.specs.Fill.{tabulate}
 use Rattle.lists.specs.FillLaws.{tabulate-none, fill-more, fill-end}
-use Rattle.reporter.specs.Shown.{shownNext}
-use Rattle.reporter.specs.ShownLaws.{next-shown}
+use Rattle.reporter.specs.Showing.{shownNext}
+use Rattle.reporter.specs.ShowingLaws.{next-shown}
 use Rattle.reporter.proofs.followers.next_in.Statement.{statement}
 use Rattle.reporter.proofs.followers.next_in.Tie as tie
 

@@ -7,8 +7,8 @@ use native.Mathlib.Omega.{arith}
 use lib.ListN.{length, take, length-set, length-replicate}
 use Rattle.lists.specs.Fill.{tabulate}
 use Rattle.lists.specs.FillLaws.{fill-more, fill-end}
-use Rattle.reporter.specs.Shown.{isBetween, stuckMarks}
-use Rattle.reporter.specs.ShownLaws.{stuck-first, stuck-next}
+use Rattle.reporter.specs.Showing.{isBetween, stuckMarks}
+use Rattle.reporter.specs.ShowingLaws.{stuck-first, stuck-next}
 use Rattle.reporter.proofs.followers.stuck_in.Statement.{statement}
 use Rattle.reporter.proofs.followers.stuck_in.Tie as tie
 

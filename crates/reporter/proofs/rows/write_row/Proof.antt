@@ -5,7 +5,7 @@ use native.Mathlib.Omega.{arith}
 use borrow.Author.Needs.{needs}
 use lib.ListN.{length}
 use Rattle.laws.specs.ReportLaws.{row-bytes-length}
-use Rattle.reporter.specs.ShownLaws.{three-length, row-written}
+use Rattle.reporter.specs.ShowingLaws.{three-length, row-written}
 use Rattle.reporter.proofs.rows.write_row.Statement.{statement}
 use Rattle.reporter.proofs.rows.write_row.Tie as tie
 

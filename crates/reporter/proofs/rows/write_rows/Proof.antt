@@ -4,10 +4,10 @@ use mathlib.Core.Path.{_≡_, refl, sym, _∙_}
 use Prim.Native.Nat.{_≤_, _-_, _*_}
 use native.Mathlib.Omega.{arith}
 use lib.ListN.{length, take, length-take}
-use Rattle.reporter.specs.ShownLaws.{first-written, next-written, all-written, path-most, shown-record}
+use Rattle.reporter.specs.ShowingLaws.{first-written, next-written, all-written, path-most, shown-record}
 use Rattle.lists.specs.Fill.{blocks}
 use Rattle.lists.specs.Parts.{part-length}
-use Rattle.reporter.specs.Shown.{shownRow}
+use Rattle.reporter.specs.Showing.{shownRow}
 use Rattle.reporter.proofs.rows.write_rows.Statement.{statement}
 use Rattle.reporter.proofs.rows.write_rows.Tie as tie
 

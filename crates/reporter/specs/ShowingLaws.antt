@@ -18,7 +18,7 @@ use Rattle.lists.specs.Tests.{by-equal, by-less, is-inside, below-out, above-ou
 use Rattle.rules.specs.Table.{recordAt, hopsOf, nextHop, pathOf, rankAt, pathAt}
 use Rattle.rules.specs.Report.{rowBytes}
 use Rattle.laws.specs.ReportLaws.{row-bytes-length}
-use Rattle.reporter.specs.Shown.{isBetween, nextFrom, shownNext, shownRow}
+use Rattle.reporter.specs.Showing.{isBetween, nextFrom, shownNext, shownRow}
 
 -- the count that has come to v; b says whether the mark there is outside
 module _ (low high : ℕ) (marks : List ℕ) where
