@@ -19,7 +19,6 @@ use Rattle.lists.specs.RenewLaws.{renewed-none, renewed-keep, renewed-store, re
 use Rattle.rules.specs.Table.{Path, pathAt, nextHop}
 use Rattle.rules.specs.Greedy.{Settled, compatible}
 use Rattle.laws.specs.GreedyLaws.{compatible-waiting, compatible-settled}
-use Rattle.judge.specs.declared.Standing.{Standing}
 use Rattle.judge.specs.Staged.{Staged}
 use Rattle.judge.specs.Standing.{isIn, heldPath, settledBy, firstRecord, bestRecord, entersWith, isJudged, shownAfter, markAfter}
 

@@ -12,12 +12,12 @@ use borrow.Author.Tests.{ne-eqb, not-true}
 use Rattle.lists.specs.Tests.{by-test, by-equal, by-less, by-option, true≢, none≢some, and-parts, is-inside, above-out, below-out}
 use Rattle.lists.specs.Search.{outside}
 use Rattle.lists.specs.SearchLaws.{count-ext}
-use Rattle.lists.specs.Fill.{padded, tabulate, blocks}
+use Rattle.lists.specs.Fill.{padded, tabulate}
 use Rattle.lists.specs.FillLaws.{tabulate-length, tabulate-at, blocks-ext}
 use Rattle.rules.specs.Table.{Path, records, rankOf, pathAt, rankAt, recordAt, pathsOf, present, nextHop, longest}
 use Rattle.rules.specs.Refusals.{refusal}
 use Rattle.rules.specs.Greedy.{isSettled, stuckIn, ringFrom}
-use Rattle.rules.specs.Report.{rowBytes, rankIn, placeIn, Report}
+use Rattle.rules.specs.Report.{rowBytes, rankIn, placeIn}
 use Rattle.laws.specs.ShapeLaws.{shaped, path-length, names}
 use Rattle.laws.specs.TableLaws.{record-past, path-owner}
 use Rattle.laws.specs.Blocks.{few-records, no-path}

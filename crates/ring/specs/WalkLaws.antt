@@ -7,7 +7,7 @@ use Prim.Native.Nat.{ℕ, suc, _+_, _-_, _<_, _≤_, min}
 use native.Mathlib.Omega.{arith}
 use native.Mathlib.Nat.{not-suc-le-zero}
 use native.Mathlib.Numerals.{add-one}
-use lib.ListN.{length, getD, take, drop, set, drop-of-length-le, length-append, length-set, length-take, length-drop, List·getD-eq-default}
+use lib.ListN.{length, getD, take, drop, set, drop-of-length-le, length-append, length-set, length-take, length-drop}
 use lib.Seq.{drop-cons, drop-at, length-take-le, take-at, take-suc-set}
 use borrow.Author.Tests.{eq-eqb, ne-eqb}
 use Rattle.lists.specs.Search.{elem, firstFrom}
@@ -16,7 +16,7 @@ use Rattle.lists.specs.Tests.{by-test, by-equal, by-less, by-option, true≢}
 use Rattle.lists.specs.Parts.{part-to-end, rest-of-first}
 use Rattle.lists.specs.Fill.{padded}
 use Rattle.lists.specs.FillLaws.{padded-length, padded-append, padded-tabulate, tabulate-take}
-use Rattle.lists.specs.ListLaws.{elem-cons, elem-nil, elem-at, elem-place, getD-within}
+use Rattle.lists.specs.ListLaws.{elem-cons, elem-nil, elem-at, elem-place}
 use Rattle.rules.specs.Greedy.{fromVertex, beforeVertex, closedPart, lowestOf, turned, ringFrom}
 use Rattle.laws.specs.RingLaws.{from-place}
 use Rattle.ring.specs.Ring.{ringIn, Ringed, nextIn, lowestMarked, ClosedAt}
