@@ -229,17 +229,16 @@ module _ (l : List ℕ) where
       ap length turned-is ∙ length-append (drop k l) (take k l)
       ∙ omega (arith, length-drop k l, length-take k l, place-most (lowestOf l) l)
 
--- the turned list written to a buffer: first the part from the lowest vertex on, and behind it, from `done` on, the part before that
-module _ (buffer l : List ℕ) (k done : ℕ) (first second : List ℕ) where
+-- two lists end to end written to a buffer: first the one, and behind it, from `done` on, the other
+module _ (buffer a b : List ℕ) (done : ℕ) (first second : List ℕ) where
   abbrev once : List ℕ
   once = first ++ drop done buffer
 
-  pub turned-written : k ≡ placeIn (lowestOf l) l
-      → done ≡ min (length l - k) (length buffer)
-      → first ≡ padded (length (take done buffer)) 255 (take (length l - k) (drop k l))
-      → second ≡ padded (length (take (length once - done) (drop done once))) 255 (take k l)
-      → take done once ++ (second ++ drop (length once - done) (drop done once)) ≡ padded (length buffer) 255 (turned l)
-  turned-written p q e f =
+  pub both-written : done ≡ min (length a) (length buffer)
+      → first ≡ padded (length (take done buffer)) 255 a
+      → second ≡ padded (length (take (length once - done) (drop done once))) 255 b
+      → take done once ++ (second ++ drop (length once - done) (drop done once)) ≡ padded (length buffer) 255 (a ++ b)
+  both-written q e f =
       let n = length buffer in
       let front : length (take done buffer) ≡ done = length-take-le done buffer (omega arith) in
       let long : length first ≡ done = ap length e ∙ padded-length 255 _ _ ∙ front in
@@ -250,12 +249,34 @@ module _ (buffer l : List ℕ) (k done : ℕ) (first second : List ℕ) where
       = length-take (n - done) (drop done buffer) ∙ omega (arith, length-drop done buffer) in
       let past : drop (n - done) (drop done buffer) ≡ []
       = drop-of-length-le (drop done buffer) {i = n - done} (omega (arith, length-drop done buffer)) in
-      let written : first ≡ take done (padded n 255 (drop k l))
-      = e ∙ rw (front, part-to-end l k, padded-tabulate 255 done (drop k l), padded-tabulate 255 n (drop k l))
-      (sym (tabulate-take (λ i. getD (drop k l) i 255) n done (omega arith))) in
-      let after : second ≡ padded (n - done) 255 (take k l) = f ∙ rw (rest, whole, count) in
-      rw (head, rest, whole, past, append-nil, written, after)
-      (padded-append 255 n (drop k l) (take k l) done (q ∙ rw (length-drop k l)) ∙ rw (turned-is l, p))
+      let written : first ≡ take done (padded n 255 a)
+      = e ∙ rw (front, padded-tabulate 255 done a, padded-tabulate 255 n a) (sym (tabulate-take (λ i. getD a i 255) n done (omega arith))) in
+      let after : second ≡ padded (n - done) 255 b = f ∙ rw (rest, whole, count) in
+      rw (head, rest, whole, past, append-nil, written, after) (padded-append 255 n a b done q)
+
+-- the turned list: first the part from the lowest vertex on, then the part before that
+pub turned-written : (buffer l : List ℕ) (k done : ℕ) (first second : List ℕ)
+    → k ≡ placeIn (lowestOf l) l
+    → done ≡ min (length l - k) (length buffer)
+    → first ≡ padded (length (take done buffer)) 255 (take (length l - k) (drop k l))
+    → second ≡ padded (length (take (length (first ++ drop done buffer) - done) (drop done (first ++ drop done buffer)))) 255 (take k l)
+    → take done (first ++ drop done buffer)
+    ++ (second ++ drop (length (first ++ drop done buffer) - done) (drop done (first ++ drop done buffer)))
+    ≡ padded (length buffer) 255 (turned l)
+turned-written buffer l k done first second p q e f =
+    both-written buffer (drop k l) (take k l) done first second (q ∙ rw (length-drop k l)) (rw (part-to-end l k) at e) f
+    ∙ ap (padded (length buffer) 255) (sym (turned-is l ∙ rw p))
+
+-- a list, then the filler alone
+pub front-written : (buffer bytes : List ℕ) (done : ℕ) (first second : List ℕ)
+    → done ≡ min (length bytes) (length buffer)
+    → first ≡ padded (length (take done buffer)) 255 bytes
+    → second ≡ padded (length (take (length (first ++ drop done buffer) - done) (drop done (first ++ drop done buffer)))) 255 []
+    → take done (first ++ drop done buffer)
+    ++ (second ++ drop (length (first ++ drop done buffer) - done) (drop done (first ++ drop done buffer)))
+    ≡ padded (length buffer) 255 bytes
+front-written buffer bytes done first second q e f =
+    both-written buffer bytes [] done first second q e f ∙ ap (padded (length buffer) 255) (append-nil bytes)
 
 -- the lowest marked vertex
 

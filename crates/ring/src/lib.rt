@@ -1,5 +1,6 @@
 // The ring among the stuck vertices, for any marks and numbers: each vertex is followed by the number at its place.
 ghost use mathlib.Core.Path.{_≡_};
+ghost use mathlib.Core.List.{[]};
 ghost use lib.ListN.{length};
 ghost use Rattle.lists.specs.Fill.{padded};
 ghost use Rattle.rules.specs.Greedy.{beforeVertex, lowestOf, turned};
@@ -93,6 +94,26 @@ fn lowest_place(part: &[u8]) -> usize
     place
 }
 
+// Fills with 255.
+fn clear(part: &mut [u8])
+    ensures { λ r. ⌜ now (part .exit) ≡ padded (length (now (part .entry))) 255 [] ⌝ }
+{
+    let mut i = 0;
+    while i < part.len() {
+        part[i] = FILLER;
+        i += 1;
+    }
+}
+
+// Fills with the bytes, then 255: the filler is no question at each byte, since a ring is mostly filler.
+fn fill_front(part: &mut [u8], bytes: &[u8])
+    ensures { λ r. ⌜ now (part .exit) ≡ padded (length (now (part .entry))) 255 (now (bytes .entry)) ⌝ }
+{
+    let done = at_most(bytes.len(), part.len());
+    fill_padded(&mut part[..done], bytes);
+    clear(&mut part[done..]);
+}
+
 // Writes the closed part from its lowest vertex on, behind it the part before that, then 255.
 fn write_turned(ring: &mut [u8], part: &[u8])
     ensures { λ r. ⌜ now (ring .exit) ≡ padded (length (now (ring .entry))) 255 (turned (now (part .entry))) ⌝ }
@@ -100,7 +121,7 @@ fn write_turned(ring: &mut [u8], part: &[u8])
     let k = lowest_place(part);
     let done = at_most(part.len() - k, ring.len());
     fill_padded(&mut ring[..done], &part[k..]);
-    fill_padded(&mut ring[done..], &part[..k]);
+    fill_front(&mut ring[done..], &part[..k]);
 }
 
 // The ring, then 255, and its length.
