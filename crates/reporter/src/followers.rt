@@ -6,8 +6,8 @@ ghost use Rattle.reporter.specs.Showing.{countBetween, nextFrom, nextNum
 use crate::STUCK;
 use crate::VERTICES;
 use record_fields::next_at;
+use ring::clear;
 use ring::find_ring;
-use slices::fill_padded;
 
 // Which vertices are stuck; 0 never is.
 fn stuck_in(marks: &[u8]) -> [bool; 64]
@@ -59,7 +59,7 @@ pub(crate) fn write_ring(
     ensures { λ r. ⌜ Ringed (stuckMarks (now (marks .entry))) (nextNumbers (now (table .entry)) (stuckMarks (now (marks .entry))) (now (shown .entry))) (length (now (ring .entry))) r (now (ring .exit)) ⌝ }
 {
     if waiting == 0 {
-        fill_padded(ring, &marks[..0]);
+        clear(ring);
         return 0;
     }
     let stuck = stuck_in(marks);

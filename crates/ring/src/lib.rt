@@ -94,8 +94,8 @@ fn lowest_place(part: &[u8]) -> usize
     place
 }
 
-// Fills with 255.
-fn clear(part: &mut [u8])
+// Fills with 255, as a ring of no vertex is written.
+pub fn clear(part: &mut [u8])
     ensures { λ r. ⌜ now (part .exit) ≡ padded (length (now (part .entry))) 255 [] ⌝ }
 {
     let mut i = 0;

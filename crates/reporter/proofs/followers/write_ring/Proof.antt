@@ -6,21 +6,18 @@ use Rattle.reporter.specs.Reported.{ring-none, ring-told}
 use Rattle.reporter.proofs.followers.write_ring.Statement.{statement}
 use Rattle.reporter.proofs.followers.write_ring.Tie as tie
 
-slice-aggregate-fill-padded : tie.Need-slice-aggregate-fill-padded
-slice-aggregate-fill-padded c = search needs
-
-fill-padded-requires : tie.Need-fill-padded-requires
-fill-padded-requires c κs = search needs
+clear-requires : tie.Need-clear-requires
+clear-requires c κs = search needs
 
 same-length : tie.Need-same-length
 same-length c = search needs
 
 returns : tie.Need-returns
 returns c =
-    let at-filled = c .before .before in
-    let at-if = at-filled .before .before .before in
+    let at-cleared = c .before .before in
+    let at-if = at-cleared .before .before in
     let at-start = at-if .before .before .before .before .before in
-    ring-none (at-start .args .marks .now) _ (sym (at-start .pre .2) ∙ at-if .if1 .taken) (at-filled .fill-padded .ensures)
+    ring-none (at-start .args .marks .now) _ (sym (at-start .pre .2) ∙ at-if .if1 .taken) (at-cleared .clear .ensures)
 
 stuck-in-requires : tie.Need-stuck-in-requires
 stuck-in-requires c κs = search needs
@@ -52,5 +49,5 @@ returns-2 c =
 pub write-ring-spec : {M : Type 1} → statement M
 write-ring-spec =
     tie.close
-    (tie.spec slice-aggregate-fill-padded fill-padded-requires same-length returns stuck-in-requires slice-aggregate-next-in
+    (tie.spec clear-requires same-length returns stuck-in-requires slice-aggregate-next-in
     next-in-requires slice-aggregate-find-ring slice-aggregate-find-ring-2 find-ring-requires same-length-2 returns-2)
