@@ -13,11 +13,11 @@ use Rattle.check_lines.specs.AnswerText.{answerText}
 use Rattle.checker.specs.Checked.{Checked}
 
 -- what the check's answer prints is the table's text
-pub printed-check : (t rows ring : List ℕ) (a : Answer)
+pub printed-check : {t rows ring : List ℕ} {a : Answer}
     → Checked t (replicate 1024 0) (replicate 64 0) a rows ring
     → answerText a rows ring ≡ checkText t
-printed-check t rows ring a checked =
-    rw (checked .0, checked .1 .0, checked .1 .1 .0, checked .1 .1 .1)
+printed-check {t} {rows} {ring} {a} checked =
+    rw (checked .verdict, checked .numbers, checked .rows, checked .ring)
     (check-text t (replicate 1024 0) (replicate 64 0) (length-replicate {A = ℕ} 1024 0) (length-replicate {A = ℕ} 64 0))
 
 -- in 16,384 bytes the whole text stands in front

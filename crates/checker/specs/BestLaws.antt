@@ -19,7 +19,7 @@ use Rattle.laws.specs.Blocks.{here, few-records, no-path, owned-length, owned-a
 use Rattle.judge.specs.Standing.{isIn, settledBy, firstRecord, bestRecord, entersWith}
 use Rattle.judge.specs.StandingLaws.{in-settled, out-unsettled}
 use Rattle.judge.specs.SlotLaws.{Filled, record-padded, record-among, record-path}
-use Rattle.checker.specs.Settling.{Own}
+use Rattle.reporter.specs.Outcome.{Own}
 
 -- the record of no path
 

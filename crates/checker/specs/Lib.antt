@@ -1,12 +1,8 @@
--- What stands after each stage of the check, and after the last one.
-pub mod Settling
+-- What stands after each stage of the check, that the last stage's marks and records tell the report, and the contract of the check.
+pub mod AfterStages
 pub mod BestLaws
-pub mod MarkLaws
-pub mod StageLaws
 pub mod StartLaws
-pub mod SettlingLaws
-pub mod Rows
-pub mod RowLaws
-pub mod Reported
-pub mod ReportedLaws
+pub mod NextStageLaws
+pub mod LastStageLaws
+pub mod EndedLaws
 pub mod Checked

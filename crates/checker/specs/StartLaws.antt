@@ -4,7 +4,7 @@ use mathlib.Core.Logic.{_≢_, inl}
 use mathlib.Core.Bool.{Bool, true, false}
 use mathlib.Core.List.{List}
 use mathlib.Core.Option.{none, some}
-use Prim.Native.Nat.{ℕ, _-_, _≤_}
+use Prim.Native.Nat.{ℕ, _≤_}
 use native.Mathlib.Omega.{arith}
 use lib.ListN.{getD, replicate, length-replicate, List·getD-eq-default}
 use borrow.Author.Tests.{eq-eqb, ne-eqb, lt-ltb, le-ltb}
@@ -18,8 +18,9 @@ use Rattle.laws.specs.ShapeLaws.{shaped}
 use Rattle.laws.specs.GreedyLaws.{settled-zero, settled-out, settled-origin, stage-origin}
 use Rattle.judge.specs.Standing.{isIn, settledBy}
 use Rattle.judge.specs.StandingLaws.{holds-origin, in-settled, out-unsettled}
-use Rattle.checker.specs.Settling.{markAt, startMark, Stands}
-use Rattle.checker.specs.MarkLaws.{mark-absent, mark-waits, mark-settled}
+use Rattle.reporter.specs.Outcome.{markOf}
+use Rattle.reporter.specs.OutcomeLaws.{mark-absent, mark-waits, mark-settled}
+use Rattle.checker.specs.AfterStages.{after, startMark, Stands}
 
 -- before the first stage
 
@@ -50,14 +51,14 @@ module _ (t : List ℕ) (e : refusal t ≡ none) where
       (λ h. settled-zero (pathsOf t) (present t) v h ∙ rw (ne-eqb v 0 f, atStart))
       (λ h. settled-out (pathsOf t) (present t) 0 v h)
 
-  start-mark : (v : ℕ) → startMark (present t) v ≡ markAt t 0 v
+  start-mark : (v : ℕ) → startMark (present t) v ≡ markOf t (after t 0) v
   start-mark v =
       by-equal v 0
       (λ q. sym (start-origin (present t) v q)
-      ∙ sym (rw q (mark-settled t 0 0 _ (shaped t e .origin) (settled-origin (pathsOf t) (present t) 0) ∙ stage-origin (pathsOf t) (present t))))
+      ∙ sym (rw q (mark-settled t (after t 0) 0 _ (shaped t e .origin) (settled-origin (pathsOf t) (present t) 0) ∙ stage-origin (pathsOf t) (present t))))
       (λ q. by-test (present t v)
-      (λ a. sym (start-present (present t) v q a) ∙ sym (mark-waits t 0 v a (start-none v q)))
-      (λ a. sym (start-absent (present t) v q a) ∙ sym (mark-absent t 0 v a)))
+      (λ a. sym (start-present (present t) v q a) ∙ sym (mark-waits t (after t 0) v a (start-none v q)))
+      (λ a. sym (start-absent (present t) v q a) ∙ sym (mark-absent t (after t 0) v a)))
 
   start-high : (v : ℕ) → v ≢ 0 → 254 ≤ startMark (present t) v
   start-high v f = by-test (present t v) (λ a. omega (arith, start-present (present t) v f a)) (λ a. omega (arith, start-absent (present t) v f a))
@@ -84,7 +85,7 @@ module _ (t : List ℕ) (e : refusal t ≡ none) where
   stands-start = record {
     manyMarks = tabulate-length (startMark (present t)) 64;
     manyShown = length-replicate {A = ℕ} 64 65535;
-    marked = tabulate-ext (startMark (present t)) (markAt t 0) 64 (λ v h. start-mark v);
+    marked = tabulate-ext (startMark (present t)) (markOf t (after t 0)) 64 (λ v h. start-mark v);
     held = fun-ext held-start;
     own = λ v. inl (alike-at 64 v 65535);
   }

@@ -7,11 +7,18 @@ ghost use lib.ListN.{getD};
 ghost use Rattle.lists.specs.Fill.{tabulate};
 ghost use Rattle.rules.specs.Table.{records, slotsOf};
 ghost use Rattle.rules.specs.Refusals.{refusal};
-ghost use Rattle.checker.specs.Settling.{startMark, Ended};
+ghost use Rattle.checker.specs.AfterStages.{startMark, Ended};
+use judge::ABSENT;
+use judge::NO_RECORD;
 use judge::Standing;
+use judge::VERTICES;
+use judge::WAITING;
 use judge::stage;
 use slices::same_parts;
 use table_facts::present_in;
+
+// The mark of vertex 0: it is settled at stage 0.
+const ORIGIN: u8 = 0;
 
 // The marks and records after the last stage, and how many stages counted.
 pub(crate) struct Settling {
@@ -25,21 +32,21 @@ fn start_mark(v: usize, named: bool) -> u8
     ensures { λ r. ⌜ r ≡ startMark (λ u. named) v ⌝ }
 {
     if v == 0 {
-        return 0;
+        return ORIGIN;
     }
     if named {
-        return 255;
+        return WAITING;
     }
-    254
+    ABSENT
 }
 
 // The marks before the first stage.
 fn start_marks(present: [bool; 64]) -> [u8; 64]
     ensures { λ r. ⌜ r ≡ tabulate (startMark (λ v. getD present v false)) 64 ⌝ }
 {
-    let mut marks = [0; 64];
+    let mut marks = [ORIGIN; 64];
     let mut v = 0;
-    while v < 64 {
+    while v < VERTICES {
         marks[v] = start_mark(v, present[v]);
         v += 1;
     }
@@ -47,18 +54,18 @@ fn start_marks(present: [bool; 64]) -> [u8; 64]
 }
 
 // Runs stages until one in which nobody enters, which is not counted; who waits then shows its best compatible path.
-pub(crate) fn settle(t: &[u8], slots: [[u16; 16]; 64]) -> Settling
-    requires { ⌜ (refusal (now t) ≡ none) × (slots ≡ slotsOf (now t) (min (records (now t)) 1008)) ⌝ }
-    ensures { λ r. ⌜ Ended (now (t .entry)) (r .marks) (r .shown) (r .stages) ⌝ }
+pub(crate) fn settle(table: &[u8], slots: [[u16; 16]; 64]) -> Settling
+    requires { ⌜ (refusal (now table) ≡ none) × (slots ≡ slotsOf (now table) (min (records (now table)) 1008)) ⌝ }
+    ensures { λ r. ⌜ Ended (now (table .entry)) (r .marks) (r .shown) (r .stages) ⌝ }
 {
     let mut now = Standing {
-        marks: start_marks(present_in(t)),
-        shown: [65535; 64],
+        marks: start_marks(present_in(table)),
+        shown: [NO_RECORD; 64],
     };
     let mut s = 0;
     loop {
         let before = now.marks;
-        let next = stage(t, slots, now, s + 1);
+        let next = stage(table, slots, now, s + 1);
         let marks = next.marks;
         if same_parts(&before, &marks) {
             let shown = next.shown;

@@ -14,12 +14,12 @@ use lib.Dec.{eqb, ltb}
 use borrow.Author.Tests.{eq-eqb, ne-eqb}
 use Rattle.lists.specs.Tests.{by-test, by-equal, none≢some}
 use Rattle.lists.specs.Search.{same}
-use Rattle.lists.specs.Fill.{tabulate}
 use Rattle.lists.specs.Renew.{renewed}
 use Rattle.lists.specs.RenewLaws.{renewed-none, renewed-keep, renewed-store, renewed-all}
 use Rattle.rules.specs.Table.{Path, pathAt, nextHop}
 use Rattle.rules.specs.Greedy.{Settled, compatible}
 use Rattle.laws.specs.GreedyLaws.{compatible-waiting, compatible-settled}
+use Rattle.judge.specs.Staged.{Staged}
 use Rattle.judge.specs.Standing.{isIn, heldPath, settledBy, firstRecord, bestRecord, entersWith, isJudged, shownAfter, markAfter}
 
 -- past the end of the marks nobody is settled or judged
@@ -94,12 +94,12 @@ settled-holds t marks shown v p e =
 
 -- a walk along a path that has come to k, with the answer still to be found from there on; b says whether the vertex there is settled
 module _ (t marks shown p : List ℕ) (k : ℕ) (come : compatible (settledBy t marks shown) (drop k p) ≡ compatible (settledBy t marks shown) p) where
-  module _ (h : k < length p) (b : Bool) (look : b ≡ isIn marks (getD p k 0)) where
-    pub compatible-hit : (x : Bool)
+  module _ (h : k < length p) {b : Bool} (look : b ≡ isIn marks (getD p k 0)) where
+    pub compatible-hit : {x : Bool}
         → b ≡ true
         → x ≡ same (take (length p - k) (drop k p)) (heldPath t shown (getD p k 0))
         → x ≡ compatible (settledBy t marks shown) p
-    compatible-hit x e s =
+    compatible-hit e s =
         s ∙ rw part-to-end (sym (drop-head (settledBy t marks shown) p k _ h (in-settled t marks shown (getD p k 0) (sym look ∙ e)))) ∙ come
 
     pub compatible-next : b ≡ false → compatible (settledBy t marks shown) (drop (k + 1) p) ≡ compatible (settledBy t marks shown) p
@@ -153,78 +153,97 @@ look-compatible t marks shown p i n b x e f g h =
 
 -- a stage that has come to v: the marks and records below v are new
 pub record Judged (t : List ℕ) (slots : List (List ℕ)) (marks shown : List ℕ) (number v : ℕ) (nextMarks nextShown : List ℕ) : Type 0 where
+  pub most : v ≤ 64
+  pub oldMarks : length marks ≡ 64
+  pub oldShown : length shown ≡ 64
+  pub newMarks : length nextMarks ≡ 64
+  pub newShown : length nextShown ≡ 64
   pub marked : nextMarks ≡ renewed (markAfter t slots marks shown number) marks v
   pub showed : nextShown ≡ renewed (shownAfter t slots marks shown) shown v
-  pub manyMarks : length nextMarks ≡ 64
-  pub manyShown : length nextShown ≡ 64
 
-module _ (t : List ℕ) (slots : List (List ℕ)) (marks shown : List ℕ) (number : ℕ) where
-  -- at the start nothing is new
-  pub judged-none : length marks ≡ 64 → length shown ≡ 64 → Judged t slots marks shown number 0 marks shown
-  judged-none l m = record {
-    marked = sym (renewed-none (markAfter t slots marks shown number) marks);
-    showed = sym (renewed-none (shownAfter t slots marks shown) shown);
-    manyMarks = l;
-    manyShown = m;
-  }
+-- at the start nothing is new
+pub judged-none : (t : List ℕ) (slots : List (List ℕ)) (marks shown : List ℕ) (number : ℕ)
+    → length marks ≡ 64
+    → length shown ≡ 64
+    → Judged t slots marks shown number 0 marks shown
+judged-none t slots marks shown number l m = record {
+  most = omega arith;
+  oldMarks = l;
+  oldShown = m;
+  newMarks = l;
+  newShown = m;
+  marked = sym (renewed-none (markAfter t slots marks shown number) marks);
+  showed = sym (renewed-none (shownAfter t slots marks shown) shown);
+}
+
+module _ {t : List ℕ} {slots : List (List ℕ)} {marks shown : List ℕ} {number v : ℕ} {nextMarks nextShown : List ℕ}
+    (j : Judged t slots marks shown number v nextMarks nextShown) where
+  abbrev newMark : ℕ → ℕ
+  newMark = markAfter t slots marks shown number
+
+  abbrev newRecord : ℕ → ℕ
+  newRecord = shownAfter t slots marks shown
 
   -- at the end all is
-  pub judged-all : (v : ℕ) (nextMarks nextShown : List ℕ)
-      → length marks ≡ 64
-      → length shown ≡ 64
-      → v ≡ 64
-      → Judged t slots marks shown number v nextMarks nextShown
-      → (nextMarks ≡ tabulate (markAfter t slots marks shown number) 64) × (nextShown ≡ tabulate (shownAfter t slots marks shown) 64)
-  judged-all v nextMarks nextShown l m e j = (
-    j .marked ∙ ap (renewed (markAfter t slots marks shown number) marks) e ∙ renewed-all (markAfter t slots marks shown number) marks 64 l,
-    j .showed ∙ ap (renewed (shownAfter t slots marks shown) shown) e ∙ renewed-all (shownAfter t slots marks shown) shown 64 m,
-  )
+  pub judged-all : 64 ≤ v
+      → Staged t slots (record { marks = marks; shown = shown }) number (record { marks = nextMarks; shown = nextShown })
+  judged-all h = let e : v ≡ 64 = omega (arith, j .most) in record {
+    marks = j .marked ∙ ap (renewed newMark marks) e ∙ renewed-all newMark marks 64 (j .oldMarks);
+    shown = j .showed ∙ ap (renewed newRecord shown) e ∙ renewed-all newRecord shown 64 (j .oldShown);
+  }
 
-  module _ (v : ℕ) (nextMarks nextShown : List ℕ) (l : length marks ≡ 64) (m : length shown ≡ 64) (h : v < 64)
-      (j : Judged t slots marks shown number v nextMarks nextShown) (b : Bool) (look : b ≡ isJudged marks v) where
-    keep-mark : getD marks v 254 ≡ markAfter t slots marks shown number v
-        → nextMarks ≡ renewed (markAfter t slots marks shown number) marks (v + 1)
-    keep-mark e = j .marked ∙ renewed-keep (markAfter t slots marks shown number) marks v 254 (omega arith) e
+  module _ (h : v < 64) {b : Bool} (look : b ≡ isJudged marks v) where
+    keep-mark : getD marks v 254 ≡ newMark v → nextMarks ≡ renewed newMark marks (v + 1)
+    keep-mark e = j .marked ∙ renewed-keep newMark marks v 254 (omega (arith, j .oldMarks)) e
 
     -- a vertex that is not judged keeps both
     pub judged-skip : b ≡ false → Judged t slots marks shown number (v + 1) nextMarks nextShown
     unfolding markAfter shownAfter
     judged-skip e = record {
+      most = omega arith;
+      oldMarks = j .oldMarks;
+      oldShown = j .oldShown;
+      newMarks = j .newMarks;
+      newShown = j .newShown;
       marked = keep-mark (rw (sym look ∙ e, markAfter));
-      showed = j .showed ∙ renewed-keep (shownAfter t slots marks shown) shown v 65535 (omega arith) (rw (sym look ∙ e, shownAfter));
-      manyMarks = j .manyMarks;
-      manyShown = j .manyShown;
+      showed = j .showed ∙ renewed-keep newRecord shown v 65535 (omega (arith, j .oldShown)) (rw (sym look ∙ e, shownAfter));
     }
 
-    module _ (e : b ≡ true) (best : ℕ) (found : best ≡ bestRecord t marks shown (getD slots v [])) where
-      shows : best ≡ shownAfter t slots marks shown v
+    module _ (e : b ≡ true) {best : ℕ} (found : best ≡ bestRecord t marks shown (getD slots v [])) where
+      shows : best ≡ newRecord v
       unfolding shownAfter
       shows = rw (sym look ∙ e, shownAfter) found
 
-      stores : set nextShown v best ≡ renewed (shownAfter t slots marks shown) shown (v + 1)
-      stores = ap (λ (x : List ℕ). set x v best) (j .showed) ∙ renewed-store (shownAfter t slots marks shown) shown v best (omega arith) shows
+      stores : set nextShown v best ≡ renewed newRecord shown (v + 1)
+      stores = ap (λ (x : List ℕ). set x v best) (j .showed) ∙ renewed-store newRecord shown v best (omega (arith, j .oldShown)) shows
 
-      module _ (x : Bool) (enter : x ≡ entersWith t marks best) where
-        verdict : isJudged marks v && entersWith t marks (shownAfter t slots marks shown v) ≡ x
+      module _ {x : Bool} (enter : x ≡ entersWith t marks best) where
+        verdict : isJudged marks v && entersWith t marks (newRecord v) ≡ x
         verdict = rw (sym look ∙ e, ← shows) (sym enter)
 
         -- one that waits gets the record of its best compatible path
         pub judged-wait : x ≡ false → Judged t slots marks shown number (v + 1) nextMarks (set nextShown v best)
         unfolding markAfter
         judged-wait f = record {
+          most = omega arith;
+          oldMarks = j .oldMarks;
+          oldShown = j .oldShown;
+          newMarks = j .newMarks;
+          newShown = length-set nextShown v best ∙ j .newShown;
           marked = keep-mark (rw (verdict ∙ f, markAfter));
           showed = stores;
-          manyMarks = j .manyMarks;
-          manyShown = length-set nextShown v best ∙ j .manyShown;
         }
 
         -- one that enters gets the stage's number too
         pub judged-enter : x ≡ true → Judged t slots marks shown number (v + 1) (set nextMarks v number) (set nextShown v best)
         unfolding markAfter
         judged-enter f = record {
+          most = omega arith;
+          oldMarks = j .oldMarks;
+          oldShown = j .oldShown;
+          newMarks = length-set nextMarks v number ∙ j .newMarks;
+          newShown = length-set nextShown v best ∙ j .newShown;
           marked = ap (λ (y : List ℕ). set y v number) (j .marked)
-              ∙ renewed-store (markAfter t slots marks shown number) marks v number (omega arith) (rw (verdict ∙ f, markAfter));
+              ∙ renewed-store newMark marks v number (omega (arith, j .oldMarks)) (rw (verdict ∙ f, markAfter));
           showed = stores;
-          manyMarks = length-set nextMarks v number ∙ j .manyMarks;
-          manyShown = length-set nextShown v best ∙ j .manyShown;
         }

@@ -3,7 +3,7 @@ use mathlib.Core.Path.{_≡_, refl, sym, ap, _∙_}
 use mathlib.Core.Bool.{Bool, true, false, cond}
 use mathlib.Core.List.{List, []}
 use mathlib.Core.Option.{Option}
-use Prim.Native.Nat.{ℕ, _+_, _*_, _<_, _≤_}
+use Prim.Native.Nat.{ℕ, _+_, _*_, _/_, _%_, _<_, _≤_}
 use lib.ListN.{length, getD, List·getD-eq-default}
 use mir.Val.{boolByte}
 use borrow.Author.Tests.{lt-ltb, le-ltb}
@@ -17,7 +17,8 @@ use Rattle.reader.specs.Reading.{readingOf}
 use Rattle.reader.specs.ReadingLaws.{reading-accepted, reading-refused}
 use Rattle.reader.specs.declared.Reading.the-variants.{Accepted, Refused}
 use Rattle.rules.specs.Entries.{codeOf}
-use Rattle.probe.specs.Numbers.{markOf, slotsIn, slotAt}
+use Rattle.pairs.specs.NextHops.{hearsFrom, listensIn}
+use Rattle.probe.specs.Numbers.{markOf, slotsIn, slotAt, nextsOf}
 
 -- what the reader's answer says of the code
 pub accepted-code : (o : Option Refusal) → Accepted ≡ readingOf o → 0 ≡ codeOf o
@@ -42,7 +43,7 @@ module _ (test : ℕ → Bool) (n i : ℕ) where
   unfolding markOf
   mark-in marks e h = rw (e, tabulate-at test n i false h, lt-ltb i n h) (mark-byte (test i))
 
-  pub mark-told : (b : Bool) → b ≡ test i → i < n → boolByte b ≡ markOf test n i
+  mark-told : (b : Bool) → b ≡ test i → i < n → boolByte b ≡ markOf test n i
   unfolding markOf
   mark-told b e h = rw (← e, lt-ltb i n h) (mark-byte b)
 
@@ -71,3 +72,14 @@ module _ (t : List ℕ) (v k : ℕ) where
   pub slot-no-rank : v < 64 → 16 ≤ k → 65535 ≡ slotAt t v k
   unfolding slotAt
   slot-no-rank h l = sym (List·getD-eq-default (getD (slotsIn t) v []) 65535 {n = k} (rw (row-length h) l))
+
+-- who listens, asked of the slots
+pub listens-told : (t : List ℕ) (pair : ℕ) (nexts : List (List ℕ))
+    → nexts ≡ nextsOf t
+    → (b : Bool)
+    → b ≡ hearsFrom nexts (pair / 64) (pair % 64)
+    → pair < 4096
+    → boolByte b ≡ markOf (listensIn (nextsOf t)) 4096 pair
+unfolding listensIn
+listens-told t pair nexts n b e h =
+    mark-told (listensIn (nextsOf t)) 4096 pair b (e ∙ ap (λ (l : List (List ℕ)). hearsFrom l (pair / 64) (pair % 64)) n) h

@@ -1,4 +1,4 @@
 -- The ring of the stuck vertices.
 pub mod Ring
 pub mod WalkLaws
-pub mod RingLaws
+pub mod FollowLaws

@@ -7,30 +7,19 @@ use Prim.Native.Nat.{ℕ, suc, _+_, _-_, _<_, _≤_, min}
 use native.Mathlib.Omega.{arith}
 use native.Mathlib.Nat.{not-suc-le-zero}
 use native.Mathlib.Numerals.{add-one}
-use lib.ListN.{length, getD, take, drop, set, drop-of-length-le, length-append, length-take, length-drop, List·getD-eq-default}
-use lib.Seq.{drop-cons, length-take-le, take-suc-set}
+use lib.ListN.{length, getD, take, drop, set, drop-of-length-le, length-append, length-set, length-take, length-drop}
+use lib.Seq.{drop-cons, drop-at, length-take-le, take-at, take-suc-set}
 use borrow.Author.Tests.{eq-eqb, ne-eqb}
 use Rattle.lists.specs.Search.{elem, firstFrom}
 use Rattle.lists.specs.SearchLaws.{first-found, finds-passing, search-hit, search-next, search-end}
 use Rattle.lists.specs.Tests.{by-test, by-equal, by-less, by-option, true≢}
 use Rattle.lists.specs.Parts.{part-to-end, rest-of-first}
 use Rattle.lists.specs.Fill.{padded}
-use Rattle.lists.specs.FillLaws.{padded-length, padded-append}
-use Rattle.lists.specs.ListLaws.{elem-cons, elem-nil, elem-at, elem-place, getD-within}
-use Rattle.rules.specs.Table.{nextHop, pathAt}
+use Rattle.lists.specs.FillLaws.{padded-length, padded-append, padded-tabulate, tabulate-take}
+use Rattle.lists.specs.ListLaws.{elem-cons, elem-nil, elem-at, elem-place}
 use Rattle.rules.specs.Greedy.{fromVertex, beforeVertex, closedPart, lowestOf, turned, ringFrom}
 use Rattle.laws.specs.RingLaws.{from-place}
-use Rattle.ring.specs.Ring.{ringIn, nextIn, lowestMarked, ClosedAt}
-
--- whom v follows, with a record of its own and without
-module _ (T B : List ℕ) (v r : ℕ) where
-  pub next-past : length B ≤ v → r ≡ nextHop (pathAt T 65535) → r ≡ nextIn T B v
-  unfolding nextIn
-  next-past h e = rw (List·getD-eq-default B 65535 h) e
-
-  pub next-there : v < length B → r ≡ nextHop (pathAt T (getD B v 0)) → r ≡ nextIn T B v
-  unfolding nextIn
-  next-there h e = rw (getD-within B v 65535 0 h) e
+use Rattle.ring.specs.Ring.{ringIn, Ringed, nextIn, lowestMarked, ClosedAt}
 
 -- the place of v in a list: as many as stand before it
 abbrev pub placeIn : ℕ → List ℕ → ℕ
@@ -115,38 +104,39 @@ module _ (v : ℕ) (l : List ℕ) (i : ℕ) (come : i + placeIn v (drop i l) ≡
   place-end h = let z : placeIn v (drop i l) ≡ 0 = rw (drop-of-length-le l h) in omega arith
 
 -- a walk that has come to v with the first n of a buffer seen, and the closed part r still to be found from there on
-module _ (next : ℕ → ℕ) (size : ℕ) (seen : List ℕ) (n v : ℕ) (r : List ℕ) where
-  abbrev pub Walk : Type 0
-  Walk = closedPart next (size - n) (take n seen) v ≡ r
+pub record Walk (next : ℕ → ℕ) (size : ℕ) (seen : List ℕ) (n v : ℕ) (r : List ℕ) : Type 0 where
+  pub long : length seen ≡ size
+  pub rest : closedPart next (size - n) (take n seen) v ≡ r
 
-  module _ (come : Walk) (h : n < size) (long : length seen ≡ size) (k : ℕ) (place : k ≡ placeIn v (take n seen)) where
+module _ {next : ℕ → ℕ} {size : ℕ} {seen : List ℕ} {n v : ℕ} {r : List ℕ} (w : Walk next size seen n v r) where
+  module _ (h : n < size) (k : ℕ) (place : k ≡ placeIn v (take n seen)) where
     fuel : size - n ≡ suc (size - (n + 1))
     fuel = omega arith
 
     first-length : length (take n seen) ≡ n
-    first-length = length-take-le n seen (omega arith)
+    first-length = length-take-le n seen (omega (arith, w .long))
 
     pub walk-closes : k < n → take (n - k) (drop k seen) ≡ r
     unfolding closedPart
     walk-closes l =
         let e = placed v (take n seen) (omega (arith, first-length)) in
-        let c : fromVertex v (take n seen) ≡ r = rw (fuel, closedPart, e) at come in
+        let c : fromVertex v (take n seen) ≡ r = rw (fuel, closedPart, e) at (w .rest) in
         sym (rest-of-first k n seen) ∙ rw place (sym (from-is v (take n seen))) ∙ c
 
-    pub walk-goes : (w : ℕ) → n ≤ k → w ≡ next v → closedPart next (size - (n + 1)) (take (n + 1) (set seen n v)) w ≡ r
+    pub walk-goes : (u : ℕ) → n ≤ k → u ≡ next v → Walk next size (set seen n v) (n + 1) u r
     unfolding closedPart
-    walk-goes w l q =
+    walk-goes u l q =
         let e = unplaced v (take n seen) (omega (arith, first-length)) in
-        let c : closedPart next (size - (n + 1)) (take n seen ++ v ∷ []) (next v) ≡ r = rw (fuel, closedPart, e) at come in
-        let m : take (n + 1) (set seen n v) ≡ take n seen ++ v ∷ [] = rw add-one (take-suc-set seen n v (omega arith)) in
-        rw (q, m) c
+        let c : closedPart next (size - (n + 1)) (take n seen ++ v ∷ []) (next v) ≡ r = rw (fuel, closedPart, e) at (w .rest) in
+        let m : take (n + 1) (set seen n v) ≡ take n seen ++ v ∷ [] = rw add-one (take-suc-set seen n v (omega (arith, w .long))) in
+        record { long = length-set seen n v ∙ w .long; rest = rw (q, m) c }
 
-  pub walk-starts : n ≡ 0 → r ≡ closedPart next size [] v → Walk
-  walk-starts e q = let z : size - 0 ≡ size = omega arith in rw (e, z) (sym q)
-
-  pub walk-ends : Walk → size ≤ n → [] ≡ r
+  pub walk-ends : size ≤ n → [] ≡ r
   unfolding closedPart
-  walk-ends come h = let z : size - n ≡ 0 = omega arith in rw z at come
+  walk-ends h = let z : size - n ≡ 0 = omega arith in rw z at (w .rest)
+
+pub walk-starts : (next : ℕ → ℕ) (seen : List ℕ) (v : ℕ) → Walk next (length seen) seen 0 v (closedPart next (length seen) [] v)
+walk-starts next seen v = let z : length seen - 0 ≡ length seen = omega arith in record { long = refl; rest = rw z }
 
 -- A pass for the lowest vertex that has come to i: none of those passed is below `low`, and that has its first place, or is 64.
 pub record FirstAt (l : List ℕ) (i low place : ℕ) : Type 0 where
@@ -239,20 +229,54 @@ module _ (l : List ℕ) where
       ap length turned-is ∙ length-append (drop k l) (take k l)
       ∙ omega (arith, length-drop k l, length-take k l, place-most (lowestOf l) l)
 
--- the turned list written to n places: first the part from the lowest vertex on, and behind it, from `done` on, the part before that
-pub turned-written : (n : ℕ) (l : List ℕ) (k done : ℕ) (once both : List ℕ)
+-- two lists end to end written to a buffer: first the one, and behind it, from `done` on, the other
+module _ (buffer a b : List ℕ) (done : ℕ) (first second : List ℕ) where
+  abbrev once : List ℕ
+  once = first ++ drop done buffer
+
+  pub both-written : done ≡ min (length a) (length buffer)
+      → first ≡ padded (length (take done buffer)) 255 a
+      → second ≡ padded (length (take (length once - done) (drop done once))) 255 b
+      → take done once ++ (second ++ drop (length once - done) (drop done once)) ≡ padded (length buffer) 255 (a ++ b)
+  both-written q e f =
+      let n = length buffer in
+      let front : length (take done buffer) ≡ done = length-take-le done buffer (omega arith) in
+      let long : length first ≡ done = ap length e ∙ padded-length 255 _ _ ∙ front in
+      let head : take done once ≡ first = take-at first (drop done buffer) done long in
+      let rest : drop done once ≡ drop done buffer = drop-at first (drop done buffer) done long in
+      let whole : length once ≡ n = length-append first (drop done buffer) ∙ omega (arith, length-drop done buffer) in
+      let count : length (take (n - done) (drop done buffer)) ≡ n - done
+      = length-take (n - done) (drop done buffer) ∙ omega (arith, length-drop done buffer) in
+      let past : drop (n - done) (drop done buffer) ≡ []
+      = drop-of-length-le (drop done buffer) {i = n - done} (omega (arith, length-drop done buffer)) in
+      let written : first ≡ take done (padded n 255 a)
+      = e ∙ rw (front, padded-tabulate 255 done a, padded-tabulate 255 n a) (sym (tabulate-take (λ i. getD a i 255) n done (omega arith))) in
+      let after : second ≡ padded (n - done) 255 b = f ∙ rw (rest, whole, count) in
+      rw (head, rest, whole, past, append-nil, written, after) (padded-append 255 n a b done q)
+
+-- the turned list: first the part from the lowest vertex on, then the part before that
+pub turned-written : (buffer l : List ℕ) (k done : ℕ) (first second : List ℕ)
     → k ≡ placeIn (lowestOf l) l
-    → done ≡ min (length l - k) n
-    → once ≡ padded n 255 (take (length l - k) (drop k l))
-    → both ≡ padded (length (take (length once - done) (drop done once))) 255 (take k l)
-    → take done once ++ (both ++ drop (length once - done) (drop done once)) ≡ padded n 255 (turned l)
-turned-written n l k done once both p q e f =
-    let long : length once ≡ n = ap length e ∙ padded-length 255 n _ in
-    let left = length-drop done once in
-    let count : length (take (length once - done) (drop done once)) ≡ n - done = length-take (length once - done) (drop done once) ∙ omega arith in
-    let past : drop (length once - done) (drop done once) ≡ [] = drop-of-length-le (drop done once) {i = length once - done} (omega arith) in
-    rw (past, append-nil, f, count, e, part-to-end l k)
-    (padded-append 255 n (drop k l) (take k l) done (q ∙ rw (length-drop k l)) ∙ rw (turned-is l, p))
+    → done ≡ min (length l - k) (length buffer)
+    → first ≡ padded (length (take done buffer)) 255 (take (length l - k) (drop k l))
+    → second ≡ padded (length (take (length (first ++ drop done buffer) - done) (drop done (first ++ drop done buffer)))) 255 (take k l)
+    → take done (first ++ drop done buffer)
+    ++ (second ++ drop (length (first ++ drop done buffer) - done) (drop done (first ++ drop done buffer)))
+    ≡ padded (length buffer) 255 (turned l)
+turned-written buffer l k done first second p q e f =
+    both-written buffer (drop k l) (take k l) done first second (q ∙ rw (length-drop k l)) (rw (part-to-end l k) at e) f
+    ∙ ap (padded (length buffer) 255) (sym (turned-is l ∙ rw p))
+
+-- a list, then the filler alone
+pub front-written : (buffer bytes : List ℕ) (done : ℕ) (first second : List ℕ)
+    → done ≡ min (length bytes) (length buffer)
+    → first ≡ padded (length (take done buffer)) 255 bytes
+    → second ≡ padded (length (take (length (first ++ drop done buffer) - done) (drop done (first ++ drop done buffer)))) 255 []
+    → take done (first ++ drop done buffer)
+    ++ (second ++ drop (length (first ++ drop done buffer) - done) (drop done (first ++ drop done buffer)))
+    ≡ padded (length buffer) 255 bytes
+front-written buffer bytes done first second q e f =
+    both-written buffer bytes [] done first second q e f ∙ ap (padded (length buffer) 255) (append-nil bytes)
 
 -- the lowest marked vertex
 
@@ -273,9 +297,9 @@ module _ (S : List Bool) where
     unfolding lowestMarked
     lowest-end h = rw (search-end marks 64 v (firstFrom marks 0 64) come h, lowestMarked)
 
-  module _ (T B : List ℕ) (s : ℕ) (low : s ≡ lowestMarked S) where
+  module _ (next : List ℕ) {s : ℕ} (low : s ≡ lowestMarked S) where
     -- where no vertex is marked there is no ring
-    pub ring-empty : s ≡ 64 → ringIn T S B ≡ []
+    ring-empty : s ≡ 64 → ringIn S next ≡ []
     unfolding ringIn ringFrom lowestMarked
     ring-empty e =
         by-option (firstFrom marks 0 64)
@@ -283,8 +307,8 @@ module _ (S : List Bool) where
         (λ v q. let z : s ≡ v = rw (q, lowestMarked) at low in absurd (omega (arith, first-found marks 0 64 v q .under)))
 
     -- and where one is, the ring is the closed part of the walk from the lowest, turned
-    pub ring-walked : s ≢ 64 → ringIn T S B ≡ turned (closedPart (nextIn T B) 65 [] s)
-    unfolding ringIn ringFrom lowestMarked nextIn
+    ring-walked : s ≢ 64 → ringIn S next ≡ turned (closedPart (nextIn next) 65 [] s)
+    unfolding ringIn ringFrom lowestMarked
     ring-walked f =
         by-option (firstFrom marks 0 64)
         (λ q. absurd (f (rw (q, lowestMarked) at low)))
@@ -292,20 +316,18 @@ module _ (S : List Bool) where
 
     -- so what is written of the one and of the other is the ring, with its length
 
-    pub writes-none : (n : ℕ) (written : List ℕ)
-        → s ≡ 64
-        → written ≡ padded n 255 []
-        → (0 ≡ length (ringIn T S B)) × (written ≡ padded n 255 (ringIn T S B))
-    writes-none n written e q = rw (ring-empty e) (refl, q)
+    pub writes-none : (n : ℕ) {written : List ℕ} → s ≡ 64 → written ≡ padded n 255 [] → Ringed S next n 0 written
+    writes-none n e q = let none-there = ring-empty e in
+        record { count = sym (ap length none-there); ring = q ∙ ap (padded n 255) (sym none-there) }
 
-    pub writes-ring : (n from to : ℕ) (seen written : List ℕ)
+    pub writes-ring : (n : ℕ) {from to : ℕ} {seen written : List ℕ}
         → s ≢ 64
-        → ClosedAt (nextIn T B) 65 s seen from to
+        → ClosedAt (nextIn next) 65 s seen from to
         → length seen ≡ 65
         → written ≡ padded n 255 (turned (take (to - from) (drop from seen)))
-        → (to - from ≡ length (ringIn T S B)) × (written ≡ padded n 255 (ringIn T S B))
-    writes-ring n from to seen written f c long q =
+        → Ringed S next n (to - from) written
+    writes-ring n {from} {to} {seen} f c long q =
         let part = take (to - from) (drop from seen) in
-        let is : ringIn T S B ≡ turned part = ring-walked f ∙ ap turned (sym (c .part)) in
+        let is : ringIn S next ≡ turned part = ring-walked f ∙ ap turned (sym (c .part)) in
         let count : length part ≡ to - from = length-take (to - from) (drop from seen) ∙ omega (arith, length-drop from seen) in
-        (sym (ap length is ∙ turned-length part ∙ count), q ∙ ap (padded n 255) (sym is))
+        record { count = sym (ap length is ∙ turned-length part ∙ count); ring = q ∙ ap (padded n 255) (sym is) }

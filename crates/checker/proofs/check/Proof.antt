@@ -5,7 +5,7 @@ use native.Mathlib.Omega.{arith}
 use borrow.Author.Needs.{needs}
 use Rattle.laws.specs.AnswerLaws.{refused-rows, refused-ring, lent-right}
 use Rattle.reader.specs.ReadingLaws.{reading-accepted, reading-refused}
-use Rattle.checker.specs.Checked.{checked-refused, checked-accepted}
+use Rattle.checker.specs.Checked.{checked-refused}
 use Rattle.checker.proofs.check.Statement.{statement}
 use Rattle.checker.proofs.check.Tie as tie
 
@@ -14,16 +14,16 @@ refused-requires c κs = search needs
 
 returns : tie.Need-returns
 returns c =
-    let a = c .before .before .before .before .before in
-    checked-refused _ _ _ 1 0 _ (refused-rows _ (a .args .rows .now) _ (λ q. omega arith)) (c .refused .ensures)
+    let at-start = c .before .before .before .before .before in
+    checked-refused 1 0 (refused-rows _ (at-start .args .rows .now) _ (λ q. omega arith)) (c .refused .ensures)
 
 refused-requires-2 : tie.Need-refused-requires-2
 refused-requires-2 c κs = search needs
 
 returns-2 : tie.Need-returns-2
 returns-2 c =
-    let a = c .before .before .before .before .before .before in
-    checked-refused _ _ _ 1 0 _ (refused-ring _ _ (a .args .ring .now) (λ q. omega arith)) (c .refused2 .ensures)
+    let at-start = c .before .before .before .before .before .before in
+    checked-refused 1 0 (refused-ring _ _ (at-start .args .ring .now) (λ q. omega arith)) (c .refused2 .ensures)
 
 read-requires : tie.Need-read-requires
 read-requires c κs = search needs
@@ -36,8 +36,8 @@ enum-told c = search needs
 
 check-accepted-requires : tie.Need-check-accepted-requires
 check-accepted-requires c κs =
-    let a = c .before .before in
-    (reading-accepted _ (sym (a .enum-told .given .1) ∙ a .before .before .read .ensures), omega arith, omega arith)
+    let at-told = c .before .before in
+    reading-accepted _ (sym (at-told .enum-told .given .1) ∙ at-told .before .before .read .ensures)
 
 same-length : tie.Need-same-length
 same-length c = search needs
@@ -47,23 +47,19 @@ same-length-2 c = search needs
 
 returns-3 : tie.Need-returns-3
 returns-3 c =
-    let r = c .before .before .before .before .check-accepted .ensures in
-    let a = c .before .before .before .before .before .before .before in
-    let t = a .before .before in
-    checked-accepted _ _ _ _ _ _
-    (lent-right _ _ _ (t .before .before .if1 .left) (t .before .if2 .left)
-    ∙ reading-accepted _ (sym (a .enum-told .given .1) ∙ t .read .ensures))
-    (r .0) (r .1 .0) (r .1 .1 .0) (r .1 .1 .1)
+    let at-checked = c .before .before .before .before in
+    at-checked .check-accepted .ensures
 
 refused-requires-3 : tie.Need-refused-requires-3
 refused-requires-3 c κs = search needs
 
 returns-4 : tie.Need-returns-4
 returns-4 c =
-    let a = c .before .before .before .before in
-    checked-refused _ _ _ _ _ _
-    (lent-right _ _ _ (a .before .before .if1 .left) (a .before .if2 .left)
-    ∙ reading-refused _ _ _ (sym (c .before .before .reading .given .1) ∙ a .read .ensures))
+    let at-told = c .before .before in
+    let at-read = at-told .before .before in
+    checked-refused _ _
+    (lent-right _ _ _ (at-read .before .before .if1 .left) (at-read .before .if2 .left)
+    ∙ reading-refused _ _ _ (sym (at-told .reading .given .1) ∙ at-read .read .ensures))
     (c .refused3 .ensures)
 
 pub check-spec : {M : Type 1} → statement M

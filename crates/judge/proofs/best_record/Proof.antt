@@ -13,16 +13,16 @@ use Rattle.judge.proofs.best_record.Statement.{statement}
 use Rattle.judge.proofs.best_record.Tie as tie
 
 abbrev Inv-loop : tie.InvT-loop
-Inv-loop t marks shown slots k₀ k =
-    (length slots ≡ 16) × (k ≤ 16) × (bestRecord t marks shown (drop k slots) ≡ bestRecord t marks shown slots)
+Inv-loop table marks shown slots k₀ k =
+    (length slots ≡ 16) × (k ≤ 16) × (bestRecord table marks shown (drop k slots) ≡ bestRecord table marks shown slots)
 
 abbrev μ-loop : tie.MeasureT-loop
-μ-loop t marks shown slots k₀ k = 16 - k
+μ-loop table marks shown slots k₀ k = 16 - k
 
 loop-holds : tie.Need-loop-holds Inv-loop μ-loop
 loop-holds c =
-    let a = c .before .before .before in
-    (good-length (eInt w16) 16 (a .args .t4) _ (a .good .1 .1 .1 .0), omega arith, refl)
+    let at-start = c .before .before .before in
+    (good-length (eInt w16) 16 (at-start .args .t4) _ (at-start .good .1 .1 .1 .0), omega arith, refl)
 
 mul-i : tie.Need-mul-i Inv-loop μ-loop
 mul-i c = omega arith
@@ -46,10 +46,11 @@ is-compatible-requires c κs = omega arith
 returns-2 : tie.Need-returns-2 Inv-loop μ-loop
 unfolding bestRecord
 returns-2 c =
-    let a = c .before .before .before .before in
-    records-hit _ _ _ (a .before .before .loop .inv .2) (omega arith) (a .if1 .left)
-    (look-compatible _ _ _ _ _ _ _ true (c .before .before .before .wide .ensures) (c .before .before .path-at .ensures)
-    (c .before .is-compatible .ensures) (c .if2 .taken))
+    let at-path = c .before .before in
+    let at-if = at-path .before .before in
+    records-hit _ _ _ (at-if .before .before .loop .inv .2) (omega arith) (at-if .if1 .left)
+    (look-compatible _ _ _ _ _ _ _ true (at-path .before .wide .ensures) (at-path .path-at .ensures) (c .before .is-compatible .ensures)
+    (c .if2 .taken))
 
 add-k : tie.Need-add-k Inv-loop μ-loop
 add-k c = omega arith
@@ -60,12 +61,14 @@ loop-less c = omega arith
 loop-again : tie.Need-loop-again Inv-loop μ-loop
 unfolding bestRecord
 loop-again c =
-    let a = c .before .before .before .before in (
-      a .before .before .loop .inv .0,
+    let at-path = c .before .before in
+    let at-if = at-path .before .before in
+    let l = at-if .before .before .loop in (
+      l .inv .0,
       omega arith,
-      records-next _ _ _ (a .before .before .loop .inv .2) (omega arith) (a .if1 .left)
-          (look-compatible _ _ _ _ _ _ _ false (c .before .before .before .wide .ensures) (c .before .before .path-at .ensures)
-          (c .before .is-compatible .ensures) (c .if2 .left)),
+      records-next _ _ _ (l .inv .2) (omega arith) (at-if .if1 .left)
+          (look-compatible _ _ _ _ _ _ _ false (at-path .before .wide .ensures) (at-path .path-at .ensures) (c .before .is-compatible .ensures)
+          (c .if2 .left)),
     )
 
 returns-3 : tie.Need-returns-3 Inv-loop μ-loop

@@ -11,10 +11,11 @@ use Rattle.judge.proofs.is_compatible.Statement.{statement}
 use Rattle.judge.proofs.is_compatible.Tie as tie
 
 abbrev Inv-loop : tie.InvT-loop
-Inv-loop t marks shown path hop₀ hop = compatible (settledBy t marks shown) (drop hop path) ≡ compatible (settledBy t marks shown) path
+Inv-loop table marks shown path hop₀ hop =
+    compatible (settledBy table marks shown) (drop hop path) ≡ compatible (settledBy table marks shown) path
 
 abbrev μ-loop : tie.MeasureT-loop
-μ-loop t marks shown path hop₀ hop = length path - hop
+μ-loop table marks shown path hop₀ hop = length path - hop
 
 loop-holds : tie.Need-loop-holds Inv-loop μ-loop
 loop-holds c = refl
@@ -42,9 +43,10 @@ agrees-requires c κs = omega arith
 
 returns : tie.Need-returns Inv-loop μ-loop
 returns c =
-    let a = c .before .before .before .before .before in
-    compatible-hit _ _ _ _ _ (a .before .loop .inv) (a .loop-test .taken) _ (c .before .before .before .is-settled .ensures) _
-    (c .before .before .if1 .taken) (c .agrees .ensures)
+    let at-if = c .before .before in
+    let at-test = at-if .before .before .before in
+    compatible-hit _ _ _ _ _ (at-test .before .loop .inv) (at-test .loop-test .taken) (at-if .before .is-settled .ensures) (at-if .if1 .taken)
+    (c .agrees .ensures)
 
 add-hop : tie.Need-add-hop Inv-loop μ-loop
 add-hop c = omega arith
@@ -54,8 +56,8 @@ loop-less c = omega arith
 
 loop-again : tie.Need-loop-again Inv-loop μ-loop
 loop-again c =
-    let a = c .before .before .before in
-    compatible-next _ _ _ _ _ (a .before .loop .inv) (a .loop-test .taken) _ (c .before .is-settled .ensures) (c .if1 .left)
+    let at-test = c .before .before .before in
+    compatible-next _ _ _ _ _ (at-test .before .loop .inv) (at-test .loop-test .taken) (c .before .is-settled .ensures) (c .if1 .left)
 
 returns-2 : tie.Need-returns-2 Inv-loop μ-loop
 returns-2 c = compatible-end _ _ _ _ _ (c .before .loop .inv) (c .loop-test .left)

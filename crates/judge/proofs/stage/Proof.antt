@@ -1,31 +1,32 @@
 -- `judge::stage` meets its contract: the marks and records below v are new.
 -- Assumes nothing.
-use mathlib.Core.Path.{_≡_, sym, _∙_}
+use mathlib.Core.Path.{sym, _∙_}
 use mathlib.Core.List.{map}
-use Prim.Native.Nat.{_≤_, _-_}
+use Prim.Native.Nat.{_-_}
 use native.Mathlib.Omega.{arith}
 use borrow.Author.Tests.{not-true, not-false}
 use borrow.Kind.Array.{good-length, eInt}
 use mir.Syntax.{w8, w16}
-use lib.ListN.{length, length-map}
+use lib.ListN.{length-map}
 use Rattle.judge.specs.StandingLaws.{Judged, judged-none, judged-skip, judged-wait, judged-enter, judged-all}
 use Rattle.judge.proofs.stage.Statement.{statement}
 use Rattle.judge.proofs.stage.Tie as tie
 
 abbrev Inv-loop : tie.InvT-loop
-Inv-loop t number slots marks shown next-marks₀ next-shown₀ v₀ next-marks next-shown v =
-    (length marks ≡ 64) × (length shown ≡ 64) × (v ≤ 64) × Judged t slots marks shown number v next-marks next-shown
+Inv-loop table number slots marks shown next-marks₀ next-shown₀ v₀ next-marks next-shown v =
+    Judged table slots marks shown number v next-marks next-shown
 
 abbrev μ-loop : tie.MeasureT-loop
-μ-loop t number slots marks shown next-marks₀ next-shown₀ v₀ next-marks next-shown v = 64 - v
+μ-loop table number slots marks shown next-marks₀ next-shown₀ v₀ next-marks next-shown v = 64 - v
 
 loop-holds : tie.Need-loop-holds Inv-loop μ-loop
 loop-holds c =
-    let a = c .before .before .before in
-    let held = a .good .1 .1 .0 .1 .1 in
-    let m = sym (length-map (a .args .before .marks) (λ n. n)) ∙ good-length (eInt w8) 64 (map (λ n. n) (a .args .before .marks)) _ (held .0) in
-    let s = sym (length-map (a .args .before .shown) (λ n. n)) ∙ good-length (eInt w16) 64 (map (λ n. n) (a .args .before .shown)) _ (held .1 .0) in
-    (m, s, omega arith, judged-none _ _ _ _ _ m s)
+    let at-start = c .before .before .before in
+    let given = at-start .args .before in
+    let good = at-start .good .1 .1 .0 .1 .1 in
+    let marks = sym (length-map (given .marks) (λ n. n)) ∙ good-length (eInt w8) 64 (map (λ n. n) (given .marks)) _ (good .0) in
+    let shown = sym (length-map (given .shown) (λ n. n)) ∙ good-length (eInt w16) 64 (map (λ n. n) (given .shown)) _ (good .1 .0) in
+    judged-none _ _ _ _ _ marks shown
 
 add-v : tie.Need-add-v Inv-loop μ-loop
 add-v c = omega arith
@@ -41,13 +42,8 @@ loop-less c = omega arith
 
 loop-again : tie.Need-loop-again Inv-loop μ-loop
 loop-again c =
-    let a = c .before .before .before .before in (
-      a .loop .inv .0,
-      a .loop .inv .1,
-      omega arith,
-      judged-skip _ _ _ _ _ _ _ _ (a .loop .inv .0) (a .loop .inv .1) (c .before .before .before .loop-test .taken) (a .loop .inv .3) _
-          (c .before .is-judged .ensures) (not-true _ (c .if1 .taken)),
-    )
+    let at-test = c .before .before .before in
+    judged-skip (at-test .before .loop .inv) (at-test .loop-test .taken) (c .before .is-judged .ensures) (not-true _ (c .if1 .taken))
 
 slice-aggregate-best-record : tie.Need-slice-aggregate-best-record Inv-loop μ-loop
 slice-aggregate-best-record c = omega arith
@@ -81,15 +77,11 @@ loop-less-2 c = omega arith
 
 loop-again-2 : tie.Need-loop-again-2 Inv-loop μ-loop
 loop-again-2 c =
-    let i = c .before .before .before .before .before .before .before in
-    let a = i .before .before .before .before in (
-      a .loop .inv .0,
-      a .loop .inv .1,
-      omega arith,
-      judged-wait _ _ _ _ _ _ _ _ (a .loop .inv .0) (a .loop .inv .1) (i .before .before .before .loop-test .taken) (a .loop .inv .3) _
-          (i .before .is-judged .ensures) (not-false _ (i .if1 .left)) _ (c .before .before .before .best-record .ensures) _
-          (c .before .enters .ensures) (not-true _ (c .if2 .taken)),
-    )
+    let at-best = c .before .before .before in
+    let at-if = at-best .before .before .before .before in
+    let at-test = at-if .before .before .before in
+    judged-wait (at-test .before .loop .inv) (at-test .loop-test .taken) (at-if .before .is-judged .ensures) (not-false _ (at-if .if1 .left))
+    (at-best .best-record .ensures) (c .before .enters .ensures) (not-true _ (c .if2 .taken))
 
 array-write-next-marks : tie.Need-array-write-next-marks Inv-loop μ-loop
 array-write-next-marks c = omega arith
@@ -99,18 +91,14 @@ loop-less-3 c = omega arith
 
 loop-again-3 : tie.Need-loop-again-3 Inv-loop μ-loop
 loop-again-3 c =
-    let i = c .before .before .before .before .before .before .before in
-    let a = i .before .before .before .before in (
-      a .loop .inv .0,
-      a .loop .inv .1,
-      omega arith,
-      judged-enter _ _ _ _ _ _ _ _ (a .loop .inv .0) (a .loop .inv .1) (i .before .before .before .loop-test .taken) (a .loop .inv .3) _
-          (i .before .is-judged .ensures) (not-false _ (i .if1 .left)) _ (c .before .before .before .best-record .ensures) _
-          (c .before .enters .ensures) (not-false _ (c .if2 .left)),
-    )
+    let at-best = c .before .before .before in
+    let at-if = at-best .before .before .before .before in
+    let at-test = at-if .before .before .before in
+    judged-enter (at-test .before .loop .inv) (at-test .loop-test .taken) (at-if .before .is-judged .ensures) (not-false _ (at-if .if1 .left))
+    (at-best .best-record .ensures) (c .before .enters .ensures) (not-false _ (c .if2 .left))
 
 returns : tie.Need-returns Inv-loop μ-loop
-returns c = judged-all _ _ _ _ _ _ _ _ (c .before .loop .inv .0) (c .before .loop .inv .1) (omega arith) (c .before .loop .inv .3)
+returns c = judged-all (c .before .loop .inv) (omega arith)
 
 pub stage-spec : {M : Type 1} → statement M
 stage-spec =

@@ -23,9 +23,9 @@ same-length c = search needs
 
 returns : tie.Need-returns
 returns c =
-    let f = c .before .before in
-    let low = f .before .before .before in
-    writes-none _ _ _ _ (low .before .lowest-marked .ensures) _ _ (low .if1 .taken) (f .fill-padded .ensures)
+    let at-fill = c .before .before in
+    let at-test = at-fill .before .before .before in
+    writes-none _ _ (at-test .before .lowest-marked .ensures) _ (at-test .if1 .taken) (at-fill .fill-padded .ensures)
 
 slice-aggregate-walk : tie.Need-slice-aggregate-walk
 slice-aggregate-walk c = search needs
@@ -56,10 +56,11 @@ same-length-2 c = search needs
 
 returns-2 : tie.Need-returns-2
 returns-2 c =
-    let w = c .before .before in
-    let k = w .before .before .before .before .before in
-    let low = k .before .before in
-    writes-ring _ _ _ _ (low .before .lowest-marked .ensures) _ _ _ _ _ (low .if1 .left) (k .walk .ensures) (omega arith) (w .write-turned .ensures)
+    let at-writing = c .before .before in
+    let at-walk = at-writing .before .before .before .before .before in
+    let at-test = at-walk .before .before in
+    writes-ring _ _ (at-test .before .lowest-marked .ensures) _ (at-test .if1 .left) (at-walk .walk .ensures) (omega arith)
+    (at-writing .write-turned .ensures)
 
 pub find-ring-spec : {M : Type 1} → statement M
 find-ring-spec =

@@ -28,8 +28,8 @@ is-marked-requires c κs = search needs
 
 returns : tie.Need-returns Inv-loop μ-loop
 returns c =
-    let a = c .before .before .before in
-    lowest-hit _ (a .loop .v) (a .loop .inv .1) (c .before .before .loop-test .taken)
+    let at-loop = c .before .before .before in
+    lowest-hit _ (at-loop .loop .v) (at-loop .loop .inv .1) (c .before .before .loop-test .taken)
     (sym (c .before .is-marked .ensures) ∙ c .if1 .taken)
 
 add-v : tie.Need-add-v Inv-loop μ-loop
@@ -40,9 +40,9 @@ loop-less c = omega arith
 
 loop-again : tie.Need-loop-again Inv-loop μ-loop
 loop-again c =
-    let a = c .before .before .before in (
+    let at-loop = c .before .before .before in (
       omega arith,
-      lowest-next (a .before .before .args .marks .now) (a .loop .v) (a .loop .inv .1) (c .before .before .loop-test .taken)
+      lowest-next (at-loop .before .before .args .marks .now) (at-loop .loop .v) (at-loop .loop .inv .1) (c .before .before .loop-test .taken)
           (sym (c .before .is-marked .ensures) ∙ c .if1 .left),
     )
 

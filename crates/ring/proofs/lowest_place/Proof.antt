@@ -27,8 +27,8 @@ loop-less c = omega arith
 
 loop-again : tie.Need-loop-again Inv-loop μ-loop
 loop-again c =
-    let a = c .before .before .before in
-    (omega arith, lowest-kept _ _ _ _ (a .loop .inv .1) (c .if1 .taken))
+    let at-loop = c .before .before .before in
+    (omega arith, lowest-kept _ _ _ _ (at-loop .loop .inv .1) (c .if1 .taken))
 
 shared-slice-read-low : tie.Need-shared-slice-read-low Inv-loop μ-loop
 shared-slice-read-low c = omega arith
@@ -38,8 +38,8 @@ loop-less-2 c = omega arith
 
 loop-again-2 : tie.Need-loop-again-2 Inv-loop μ-loop
 loop-again-2 c =
-    let a = c .before .before .before .before in
-    (omega arith, lowest-new _ _ _ _ (a .loop .inv .1) (c .before .if1 .left))
+    let at-loop = c .before .before .before .before in
+    (omega arith, lowest-new _ _ _ _ (at-loop .loop .inv .1) (c .before .if1 .left))
 
 returns : tie.Need-returns Inv-loop μ-loop
 returns c = lowest-place _ _ _ _ (c .before .loop .inv .1) (omega arith)

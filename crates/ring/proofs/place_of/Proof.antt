@@ -22,8 +22,8 @@ shared-slice-read-if1 c = omega arith
 
 returns : tie.Need-returns Inv-loop μ-loop
 returns c =
-    let a = c .before .before .before in
-    place-hit _ _ (a .loop .i) (a .loop .inv .1) (c .before .before .loop-test .taken) (c .if1 .taken)
+    let at-loop = c .before .before .before in
+    place-hit _ _ (at-loop .loop .i) (at-loop .loop .inv .1) (c .before .before .loop-test .taken) (c .if1 .taken)
 
 add-i : tie.Need-add-i Inv-loop μ-loop
 add-i c = omega arith
@@ -33,8 +33,8 @@ loop-less c = omega arith
 
 loop-again : tie.Need-loop-again Inv-loop μ-loop
 loop-again c =
-    let a = c .before .before .before in
-    (omega arith, place-next _ _ (a .loop .i) (a .loop .inv .1) (c .before .before .loop-test .taken) (c .if1 .left))
+    let at-loop = c .before .before .before in
+    (omega arith, place-next _ _ (at-loop .loop .i) (at-loop .loop .inv .1) (c .before .before .loop-test .taken) (c .if1 .left))
 
 returns-2 : tie.Need-returns-2 Inv-loop μ-loop
 returns-2 c = place-end _ _ (c .before .loop .i) (c .before .loop .inv .1) (c .loop-test .left)

@@ -1,11 +1,11 @@
 -- `ring::walk` meets its contract: the walk goes on from v, with the first n of the buffer seen.
 -- Assumes nothing.
-use mathlib.Core.Path.{_≡_, refl, sym, _∙_}
+use mathlib.Core.Path.{sym}
 use mathlib.Core.List.{[]}
 use Prim.Native.Nat.{_-_, _≤_}
 use native.Mathlib.Omega.{arith}
 use borrow.Author.Needs.{needs}
-use lib.ListN.{length, length-set}
+use lib.ListN.{length}
 use lib.Seq.{length-take-le}
 use Rattle.rules.specs.Greedy.{closedPart}
 use Rattle.ring.specs.Ring.{nextIn}
@@ -14,15 +14,15 @@ use Rattle.ring.proofs.walk.Statement.{statement}
 use Rattle.ring.proofs.walk.Tie as tie
 
 abbrev Inv-loop : tie.InvT-loop
-Inv-loop t best start seen₀ v₀ n₀ seen v n =
-    (n ≤ length seen₀) × (length seen ≡ length seen₀)
-    × Walk (nextIn t best) (length seen₀) seen n v (closedPart (nextIn t best) (length seen₀) [] start)
+Inv-loop next start seen₀ v₀ n₀ seen v n =
+    (n ≤ length seen₀)
+    × Walk (nextIn next) (length seen₀) seen n v (closedPart (nextIn next) (length seen₀) [] start)
 
 abbrev μ-loop : tie.MeasureT-loop
-μ-loop t best start seen₀ v₀ n₀ seen v n = length seen₀ - n
+μ-loop next start seen₀ v₀ n₀ seen v n = length seen₀ - n
 
 loop-holds : tie.Need-loop-holds Inv-loop μ-loop
-loop-holds c = (omega arith, refl, walk-starts _ _ (c .before .before .before .args .seen .now) 0 _ _ refl refl)
+loop-holds c = (omega arith, walk-starts _ _ _)
 
 slice-reshare-prefix-place-of : tie.Need-slice-reshare-prefix-place-of Inv-loop μ-loop
 slice-reshare-prefix-place-of c = omega arith
@@ -34,16 +34,16 @@ place-of-requires : tie.Need-place-of-requires Inv-loop μ-loop
 place-of-requires c κs = search needs
 
 same-length : tie.Need-same-length Inv-loop μ-loop
-same-length c = c .before .before .before .before .loop .inv .1
+same-length c = let at-loop = c .before .before .before .before in at-loop .loop .inv .1 .long
 
 returns : tie.Need-returns Inv-loop μ-loop
 returns c =
-    let a = c .before .before .before .before in
-    let p = c .before .place-of in
+    let at-loop = c .before .before .before .before in
+    let l = at-loop .loop in
     record {
       order = omega arith;
       within = omega arith;
-      part = walk-closes _ _ _ (a .loop .n) _ _ (a .loop .inv .2) (omega arith) (a .loop .inv .1) _ (p .ensures) (c .if1 .taken);
+      part = walk-closes (l .inv .1) (omega arith) _ (c .before .place-of .ensures) (c .if1 .taken);
     }
 
 slice-write-seen : tie.Need-slice-write-seen Inv-loop μ-loop
@@ -60,22 +60,21 @@ loop-less c = omega arith
 
 loop-again : tie.Need-loop-again Inv-loop μ-loop
 loop-again c =
-    let a = c .before .before .before .before .before in (
+    let at-loop = c .before .before .before .before .before in
+    let l = at-loop .loop in (
       omega arith,
-      length-set (a .loop .seen) (a .loop .n) (a .loop .v) ∙ a .loop .inv .1,
-      walk-goes _ _ _ (a .loop .n) _ _ (a .loop .inv .2) (omega arith) (a .loop .inv .1) _
-          (c .before .before .place-of .ensures) _ (c .before .if1 .left) (c .next-of .ensures),
+      walk-goes (l .inv .1) (omega arith) _ (c .before .before .place-of .ensures) _ (c .before .if1 .left) (c .next-of .ensures),
     )
 
 same-length-2 : tie.Need-same-length-2 Inv-loop μ-loop
-same-length-2 c = c .before .loop .inv .1
+same-length-2 c = c .before .loop .inv .1 .long
 
 returns-2 : tie.Need-returns-2 Inv-loop μ-loop
 returns-2 c =
     record {
       order = omega arith;
       within = omega arith;
-      part = walk-ends _ _ _ (c .before .loop .n) _ _ (c .before .loop .inv .2) (omega arith);
+      part = walk-ends (c .before .loop .inv .1) (omega arith);
     }
 
 pub walk-spec : {M : Type 1} → statement M

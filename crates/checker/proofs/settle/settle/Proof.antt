@@ -10,21 +10,21 @@ use Rattle.rules.specs.Table.{records, pathsOf, present, slotsOf}
 use Rattle.rules.specs.Refusals.{refusal}
 use Rattle.rules.specs.Greedy.{stageCount}
 use Rattle.laws.specs.GreedyLaws.{stages-most}
-use Rattle.checker.specs.Settling.{Stands}
-use Rattle.checker.specs.SettlingLaws.{settle-start, settle-more, settle-end}
+use Rattle.checker.specs.AfterStages.{Stands}
+use Rattle.checker.specs.LastStageLaws.{settle-start, settle-more, settle-end}
 use Rattle.checker.proofs.settle.settle.Statement.{statement}
 use Rattle.checker.proofs.settle.settle.Tie as tie
 
 abbrev Inv-loop : tie.InvT-loop
-Inv-loop t slots now₀ s₀ now s =
-    (refusal t ≡ none)
-    × (slots ≡ slotsOf t (min (records t) 1008))
-    × (s ≤ stageCount (pathsOf t) (present t))
-    × Stands t s (now .marks) (now .shown)
-    × (stageCount (pathsOf t) (present t) ≤ 63)
+Inv-loop table slots now₀ s₀ now s =
+    (refusal table ≡ none)
+    × (slots ≡ slotsOf table (min (records table) 1008))
+    × (s ≤ stageCount (pathsOf table) (present table))
+    × Stands table s (now .marks) (now .shown)
+    × (stageCount (pathsOf table) (present table) ≤ 63)
 
 abbrev μ-loop : tie.MeasureT-loop
-μ-loop t slots now₀ s₀ now s = 64 - s
+μ-loop table slots now₀ s₀ now s = 64 - s
 
 present-in-requires : tie.Need-present-in-requires Inv-loop μ-loop
 present-in-requires c κs = tt
@@ -34,8 +34,8 @@ start-marks-requires c κs = tt
 
 loop-holds : tie.Need-loop-holds Inv-loop μ-loop
 loop-holds c =
-    let a = c .before .before .before in
-    (a .pre .0, a .pre .1, omega arith, settle-start _ (a .pre .0) _ _ (c .before .present-in .ensures) (c .start-marks .ensures), stages-most _ _)
+    let given = c .before .before .before .pre in
+    (given .0, given .1, omega arith, settle-start (given .0) (c .before .present-in .ensures) (c .start-marks .ensures), stages-most _ _)
 
 add-stage : tie.Need-add-stage Inv-loop μ-loop
 add-stage c = omega arith
@@ -47,17 +47,16 @@ slice-aggregate-same-parts : tie.Need-slice-aggregate-same-parts Inv-loop μ-loo
 slice-aggregate-same-parts c = omega arith
 
 slice-aggregate-same-parts-2 : tie.Need-slice-aggregate-same-parts-2 Inv-loop μ-loop
-slice-aggregate-same-parts-2 c = sym (ap length (c .before .before .before .stage .ensures .0) ∙ tabulate-length _ 64)
+slice-aggregate-same-parts-2 c = sym (ap length (c .before .before .before .stage .ensures .marks) ∙ tabulate-length _ 64)
 
 same-parts-requires : tie.Need-same-parts-requires Inv-loop μ-loop
 same-parts-requires c κs = tt
 
 returns : tie.Need-returns Inv-loop μ-loop
 returns c =
-    let g = c .before .before .before .before .before .before in
-    let i = g .before .before .loop .inv in
-    settle-end _ (i .0) _ _ _ (i .3) _ (i .1) (i .2) _ _ (g .stage .ensures .0) (g .stage .ensures .1) _
-    (c .before .before .same-parts .ensures) (c .before .if1 .taken)
+    let at-stage = c .before .before .before .before .before .before in
+    let i = at-stage .before .before .loop .inv in
+    settle-end (i .0) (i .3) (i .1) (i .2) (at-stage .stage .ensures) (c .before .before .same-parts .ensures) (c .before .if1 .taken)
 
 add-s : tie.Need-add-s Inv-loop μ-loop
 add-s c = omega arith
@@ -67,10 +66,9 @@ loop-less c = omega arith
 
 loop-again : tie.Need-loop-again Inv-loop μ-loop
 loop-again c =
-    let g = c .before .before .before .before .before in
-    let i = g .before .before .loop .inv in
-    let more = settle-more _ (i .0) _ _ _ (i .3) _ (i .1) (i .2) _ _ (g .stage .ensures .0) (g .stage .ensures .1) _
-    (c .before .same-parts .ensures) (c .if1 .left) in
+    let at-stage = c .before .before .before .before .before in
+    let i = at-stage .before .before .loop .inv in
+    let more = settle-more (i .0) (i .3) (i .1) (i .2) (at-stage .stage .ensures) (c .before .same-parts .ensures) (c .if1 .left) in
     (i .0, i .1, more .0, more .1, i .4)
 
 pub settle-spec : {M : Type 1} → statement M

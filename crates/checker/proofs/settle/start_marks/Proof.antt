@@ -7,7 +7,7 @@ use native.Mathlib.Omega.{arith}
 use lib.ListN.{length, getD, take, length-set, length-replicate}
 use Rattle.lists.specs.Fill.{tabulate}
 use Rattle.lists.specs.FillLaws.{tabulate-none, fill-more, fill-end}
-use Rattle.checker.specs.Settling.{startMark}
+use Rattle.checker.specs.AfterStages.{startMark}
 use Rattle.checker.specs.StartLaws.{start-same}
 use Rattle.checker.proofs.settle.start_marks.Statement.{statement}
 use Rattle.checker.proofs.settle.start_marks.Tie as tie
@@ -38,15 +38,12 @@ loop-less c = omega arith
 
 loop-again : tie.Need-loop-again Inv-loop μ-loop
 loop-again c =
-    let a = c .before .before in (
-      omega arith,
-      length-set (a .loop .marks) (a .loop .v) _ ∙ a .loop .inv .1,
-      fill-more _ _ _ (a .loop .v) _ (a .loop .inv .2) (omega arith) refl
-          (c .start-mark .ensures ∙ start-same _ _ (a .loop .v) refl),
-    )
+    let l = c .before .before .loop in
+    let here = c .start-mark .ensures ∙ start-same _ _ (l .v) refl in
+    (omega arith, length-set (l .marks) (l .v) _ ∙ l .inv .1, fill-more _ _ _ (l .v) _ (l .inv .2) (omega arith) refl here)
 
 returns : tie.Need-returns Inv-loop μ-loop
-returns c = fill-end _ _ _ _ (c .before .loop .inv .2) (sym (c .before .loop .inv .1)) (omega arith)
+returns c = let l = c .before .loop in fill-end _ _ _ _ (l .inv .2) (sym (l .inv .1)) (omega arith)
 
 pub start-marks-spec : {M : Type 1} → statement M
 start-marks-spec =
