@@ -12,13 +12,13 @@ use Rattle.laws.specs.RefusalLaws.{check-numbered}
 use Rattle.laws.specs.TableLaws.{at}
 use Rattle.answer.specs.declared.Answer.{Answer}
 use Rattle.answer.specs.declared.Verdict.the-variants.{Complete, Stuck, Refused}
-use Rattle.answer.specs.Meaning.{meaning, checkRefusalIn, ringLengthIn, numbers}
+use Rattle.answer.specs.Meaning.{meaning, checkRefusalIn, ringLengthIn, numbers, numbersWith}
 use Rattle.answer.specs.MeaningLaws.{refusal-in}
 use Rattle.checker.specs.Checked.{Checked}
 use Rattle.words.specs.Words.{overwritten}
 use Rattle.words.specs.WordLaws.{over-same, numbers-size}
 use Rattle.words.specs.CodeLaws.{accepted-code, length-code, kept, renewed, as-left}
-use Rattle.check_entry.specs.CheckCalled.{told, CheckCalled}
+use Rattle.check_entry.specs.CheckCalled.{CheckCalled}
 
 module _ (t rows ring lent : List ℕ) where
   pub check-not-lent : (length lent ≡ 32 → ⊥) → CheckCalled t rows ring lent 1 rows ring lent
@@ -28,44 +28,30 @@ module _ (t rows ring lent : List ℕ) where
       record { code = length-code _ e; rows = kept _ _ rows 1 0 e; ring = kept _ _ ring 1 0 e; numbers = kept _ _ lent 1 0 e }
 
   module _ (long : length lent ≡ 32) (a : Answer) (rowsNow ringNow : List ℕ) (checked : Checked t rows ring a rowsNow ringNow) where
-    -- what the library's contract says
-
-    verdict-told : meaning (a .verdict) ≡ checkVerdict t rows ring
-    verdict-told = checked .0
-
-    numbers-told : numbers a ≡ checkNumbers t rows ring
-    numbers-told = checked .1 .0
-
-    rows-told : rowsNow ≡ rowsAfter t rows ring
-    rows-told = checked .1 .1 .0
-
-    ring-told : ringNow ≡ ringAfter t rows ring
-    ring-told = checked .1 .1 .1
-
-    -- so the refusal, the rows and the ring are the entry's
+    -- the refusal, the rows and the ring are the library's
 
     abbrev same : checkRefusalForC t rows ring lent ≡ checkRefusal t rows ring
     same = check-same t rows ring lent long
 
     refusal-is : checkRefusalForC t rows ring lent ≡ checkRefusalIn (a .verdict)
     unfolding checkVerdict
-    refusal-is = same ∙ sym (refusal-in (a .verdict) (checkRefusal t rows ring) _ verdict-told)
+    refusal-is = same ∙ sym (refusal-in (a .verdict) (checkRefusal t rows ring) _ (checked .verdict))
 
     rows-are : rowsNow ≡ rowsForC t rows ring lent
     unfolding rowsForC rowsAfter
-    rows-are = rows-told ∙ as-left _ (report t .rows) rows _ same
+    rows-are = checked .rows ∙ as-left _ (report t .rows) rows _ same
 
     ring-is : ringNow ≡ ringForC t rows ring lent
     unfolding ringForC ringAfter
-    ring-is = ring-told ∙ as-left _ (report t .ring) ring _ same
+    ring-is = checked .ring ∙ as-left _ (report t .ring) ring _ same
 
-    module _ (n : ℕ) (now : List ℕ) (written : now ≡ overwritten (numberBytes (told n a)) lent) where
+    module _ (n : ℕ) (now : List ℕ) (written : now ≡ overwritten (numberBytes (numbersWith n a)) lent) where
       check-accepted : checkRefusalIn (a .verdict) ≡ none → ringLengthIn (a .verdict) ≡ n → CheckCalled t rows ring lent 0 rowsNow ringNow now
       unfolding checkNumbersForC numbers
       check-accepted e f =
           let none-left = refusal-is ∙ e in
-          let whole = over-same 32 (numberBytes (told n a)) lent (numbers-size (told n a)) long in
-          let all : told n a ≡ checkNumbers t rows ring = ap (λ (k : ℕ). told k a) (sym f) ∙ numbers-told in
+          let whole = over-same 32 (numberBytes (numbersWith n a)) lent (numbers-size (numbersWith n a)) long in
+          let all : numbersWith n a ≡ checkNumbers t rows ring = ap (λ (k : ℕ). numbersWith k a) (sym f) ∙ checked .numbers in
           record {
             code = accepted-code _ none-left;
             rows = rows-are;

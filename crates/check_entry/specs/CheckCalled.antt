@@ -1,13 +1,8 @@
 -- What the contract of the check's entry says, and that it allows one result for each input.
 use mathlib.Core.Path.{_≡_, sym, _∙_}
-use mathlib.Core.List.{List, [], _∷_}
+use mathlib.Core.List.{List}
 use Prim.Native.Nat.{ℕ}
 use Rattle.rules.specs.Entries.{codeOf, checkRefusalForC, rowsForC, ringForC, checkNumbersForC}
-use Rattle.answer.specs.declared.Answer.{Answer}
-
--- the numbers of an answer with n vertices in the ring
-abbrev pub told : ℕ → Answer → List ℕ
-told n a = n ∷ a .settled ∷ a .stuck ∷ a .stages ∷ a .longest ∷ []
 
 -- Of a table and the lent rows, ring and numbers: the code, and what the three hold afterwards.
 pub record CheckCalled (t rows₀ ring₀ numbers₀ : List ℕ) (answered : ℕ) (rowsNow ringNow numbersNow : List ℕ) : Type 0 where

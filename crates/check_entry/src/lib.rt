@@ -1,8 +1,9 @@
 // The check's entry for C: the library's check, and its answer as words.
 ghost use mathlib.Core.Path.{_≡_};
 ghost use Rattle.rules.specs.Entries.{numberBytes};
+ghost use Rattle.answer.specs.Meaning.{numbersWith};
 ghost use Rattle.words.specs.Words.{overwritten};
-ghost use Rattle.check_entry.specs.CheckCalled.{told, CheckCalled};
+ghost use Rattle.check_entry.specs.CheckCalled.{CheckCalled};
 use answer::Answer;
 use answer::Verdict;
 use checker::check;
@@ -13,7 +14,7 @@ use words::write_numbers;
 
 // Writes the check's numbers; the ring's length comes from the verdict.
 fn write_check(bytes: &mut [u8], count: u8, answer: Answer)
-    ensures { λ r. ⌜ now (bytes .exit) ≡ overwritten (numberBytes (told count answer)) (now (bytes .entry)) ⌝ }
+    ensures { λ r. ⌜ now (bytes .exit) ≡ overwritten (numberBytes (numbersWith count answer)) (now (bytes .entry)) ⌝ }
 {
     let told = [
         count as u32,

@@ -31,7 +31,7 @@ returns : tie.Need-returns
 returns c =
     let printed = c .before .before in
     let checked = printed .before .before .before .before .before .before in
-    laid-as (printed .print .ensures) (printed-check _ _ _ _ (checked .check .ensures))
+    laid-as (printed .print .ensures) (printed-check (checked .check .ensures))
 
 pub check-text-spec : {M : Type 1} → statement M
 check-text-spec =
