@@ -7,15 +7,17 @@ use lib.ListN.{getD}
 use lib.Dec.{eqb}
 use Rattle.lists.specs.Search.{firstFrom}
 use Rattle.lists.specs.Fill.{tabulate}
+use Rattle.pairs.specs.NextHops.{slotTo}
 use Rattle.rests.specs.Rests.{hearsByte}
 
 -- whether v last heard what slot k asks for from where it leads
 abbrev pub hearsSlot : List ℕ → List ℕ → List ℕ → ℕ → ℕ → Bool
 hearsSlot nexts asked heard v k = hearsByte (getD asked k 0) (getD heard (64 * v + getD nexts k 0) 0)
 
--- the number of the first such slot, from 1; 0 where there is none
+-- the number of the first such slot before the first empty one, from 1; 0 where there is none
 unfoldable pub chosenSlot : List ℕ → List ℕ → List ℕ → ℕ → ℕ
-chosenSlot nexts asked heard v = elim (firstFrom (hearsSlot nexts asked heard v) 0 16) [ none ↦ 0 | some k ↦ suc k ]
+chosenSlot nexts asked heard v =
+    elim (firstFrom (hearsSlot nexts asked heard v) 0 (slotTo nexts 255)) [ none ↦ 0 | some k ↦ suc k ]
 
 -- the byte of v's choice; the destination's is 1
 unfoldable pub choiceByte : List ℕ → List ℕ → List ℕ → ℕ → ℕ

@@ -6,11 +6,11 @@ use mathlib.Core.List.{List, [], _∷_, map}
 use mathlib.Core.Option.{none, some}
 use Prim.Native.Nat.{ℕ, suc, _+_, _-_, _*_, _<_, _≤_}
 use native.Mathlib.Omega.{arith}
-use lib.ListN.{length, getD, length-map, List·getD-eq-default}
+use lib.ListN.{length, getD}
 use borrow.Author.Tests.{eq-eqb, ne-eqb}
-use Rattle.lists.specs.Tests.{true≢, by-equal, by-less, by-option}
+use Rattle.lists.specs.Tests.{by-equal, by-option}
 use Rattle.lists.specs.Search.{firstFrom}
-use Rattle.lists.specs.SearchLaws.{first-found, first-none, search-hit, search-end}
+use Rattle.lists.specs.SearchLaws.{first-found, first-none, search-hit, search-next, search-end}
 use Rattle.lists.specs.Fill.{tabulate}
 use Rattle.lists.specs.FillLaws.{padded-at, tabulate-at, tabulate-ext}
 use Rattle.lists.specs.RangeLaws.{map-at}
@@ -21,10 +21,10 @@ use Rattle.rules.specs.Machine.{byteFor, lastHeard, choice, choiceBytes}
 use Rattle.laws.specs.MachineLaws.{speaks-destination, speaks-other, choice-destination, choice-other, rank-none}
 use Rattle.laws.specs.PathLaws.{first-at, first-missing, place-distinct, place-head}
 use Rattle.laws.specs.Shape.{Shaped}
-use Rattle.pairs.specs.NextHops.{nextRow}
-use Rattle.pairs.specs.NextHopLaws.{next-at}
+use Rattle.pairs.specs.NextHops.{nextRow, slotTo}
+use Rattle.pairs.specs.NextHopLaws.{there, slot-hit, slot-later, slot-small, next-at, own-count}
 use Rattle.rests.specs.Rests.{askedFor, askedRow, hearsByte}
-use Rattle.rests.specs.HeardRestLaws.{hears-none, asked-heard}
+use Rattle.rests.specs.HeardRestLaws.{asked-heard}
 use Rattle.choice.specs.declared.Found.{Found}
 use Rattle.choice.specs.declared.Found.the-variants.{Slot, Nothing}
 use Rattle.choice.specs.Choosing.{hearsSlot, chosenSlot, choiceByte, choicesBy}
@@ -42,23 +42,48 @@ module _ (nexts asked heard : List ℕ) (v : ℕ) where
   abbrev hears : ℕ → Bool
   hears = hearsSlot nexts asked heard v
 
-  -- the search, which has come to slot k
-  module _ (k : ℕ) (come : firstFrom hears k (16 - k) ≡ firstFrom hears 0 16) where
-    pub choose-hit : k < 16 → hears k ≡ true → foundByte (Slot k) ≡ chosenSlot nexts asked heard v
-    unfolding chosenSlot foundByte
-    choose-hit h e = rw (search-hit hears 16 k _ come h e, chosenSlot)
+  abbrev count : ℕ
+  count = slotTo nexts 255
 
-    pub choose-end : 16 ≤ k → foundByte Nothing ≡ chosenSlot nexts asked heard v
+  -- the search, which has come to slot k; no slot before it is empty
+  pub record Searched (k : ℕ) : Type 0 where
+    pub filled : firstFrom (there nexts 255) k (16 - k) ≡ firstFrom (there nexts 255) 0 16
+    pub come : firstFrom hears k (count - k) ≡ firstFrom hears 0 count
+
+  pub searched-none : Searched 0
+  searched-none = let z : count - 0 ≡ count = omega arith in record { filled = refl; come = ap (firstFrom hears 0) z }
+
+  module _ (k : ℕ) (s : Searched k) where
+    nothing : count ≤ k → foundByte Nothing ≡ chosenSlot nexts asked heard v
     unfolding chosenSlot foundByte
-    choose-end h = rw (search-end hears 16 k _ come h, chosenSlot)
+    nothing h = rw (search-end hears count k _ (s .come) h, chosenSlot)
+
+    pub choose-empty : k < 16 → getD nexts k 0 ≡ 255 → foundByte Nothing ≡ chosenSlot nexts asked heard v
+    choose-empty h e = nothing (omega (arith, slot-hit nexts 255 k (s .filled) h e))
+
+    pub choose-end : k ≡ 16 → foundByte Nothing ≡ chosenSlot nexts asked heard v
+    choose-end h = nothing (omega (arith, slot-small nexts 255 _ refl))
+
+    module _ (h : k < 16) (f : getD nexts k 0 ≢ 255) (b : Bool) (told : b ≡ hears k) where
+      pub choose-hit : b ≡ true → foundByte (Slot k) ≡ chosenSlot nexts asked heard v
+      unfolding chosenSlot foundByte
+      choose-hit e = rw (search-hit hears count k _ (s .come) (slot-later nexts 255 k (s .filled) h f) (sym told ∙ e), chosenSlot)
+
+      pub choose-next : b ≡ false → Searched (k + 1)
+      choose-next e =
+          record {
+            filled = search-next (there nexts 255) 16 k _ (s .filled) h (ne-eqb _ 255 f);
+            come = search-next hears count k _ (s .come) (slot-later nexts 255 k (s .filled) h f) (sym told ∙ e);
+          }
 
   -- what it finds is small
   pub chosen-small : (b : ℕ) → b ≡ chosenSlot nexts asked heard v → b ≤ 16
   unfolding chosenSlot
   chosen-small b e =
-      by-option (firstFrom hears 0 16)
+      by-option (firstFrom hears 0 count)
       (λ q. let z : chosenSlot nexts asked heard v ≡ 0 = rw (q, chosenSlot) in omega arith)
-      (λ k q. let z : chosenSlot nexts asked heard v ≡ suc k = rw (q, chosenSlot) in omega (arith, first-found hears 0 16 k q .under))
+      (λ k q. let z : chosenSlot nexts asked heard v ≡ suc k = rw (q, chosenSlot) in
+      omega (arith, first-found hears 0 count k q .under, slot-small nexts 255 _ refl))
 
   -- the byte of a choice
   pub byte-destination : v ≡ 0 → 1 ≡ choiceByte nexts asked heard v
@@ -87,25 +112,23 @@ module _ (paths : ℕ → List Path) (present : ℕ → Bool) (shaped : Shaped p
       asks-at k (omega (arith, shaped .few v)) ∙ map-at (askedFor paths) (paths v) k [] 0 h in
       rw (a, leads, n) (asked-heard paths present shaped heard v k h)
 
-  -- an empty one never is
-  slot-silent : (k : ℕ) → length (paths v) ≤ k → k < 16 → hearsSlot nexts asked heard v k ≡ false
-  slot-silent k h l =
-      hears-none (getD asked k 0) _
-      (asks-at k l ∙ List·getD-eq-default (map (askedFor paths) (paths v)) 0 {n = k} (omega (arith, length-map (paths v) (askedFor paths))))
+  counted : slotTo nexts 255 ≡ length (paths v)
+  counted = ap (λ (row : List ℕ). slotTo row 255) leads ∙ own-count paths present shaped v
 
   -- the slot that is found is the rank of the best path that extends what was heard
   chosen-rank : chosenSlot nexts asked heard v ≡ rankIn paths v (bestGiven paths (lastHeard paths heard v) v)
   unfolding chosenSlot bestGiven rankIn
   chosen-rank =
-      by-option (firstFrom (hearsSlot nexts asked heard v) 0 16)
-      (λ q. let fails = first-none (hearsSlot nexts asked heard v) 0 16 q in
+      let test = hearsSlot nexts asked heard v in
+      let n = slotTo nexts 255 in
+      by-option (firstFrom test 0 n)
+      (λ q. let fails = first-none test 0 n q in
       let nothing : bestGiven paths (lastHeard paths heard v) v ≡ [] =
-      first-missing extended (paths v) (λ k h. sym (slot-heard k h) ∙ fails k (omega arith) (omega (arith, shaped .few v))) in
+      first-missing extended (paths v) (λ k h. sym (slot-heard k h) ∙ fails k (omega arith) (omega (arith, counted))) in
       let z : chosenSlot nexts asked heard v ≡ 0 = rw (q, chosenSlot) in
       z ∙ sym (ap (rankIn paths v) nothing ∙ rank-none paths present shaped v))
-      (λ k q. let f = first-found (hearsSlot nexts asked heard v) 0 16 k q in
-      let h : k < length (paths v) =
-      by-less k (length (paths v)) (λ l. l) (λ l. absurd (true≢ (f .passes) (slot-silent k l (omega (arith, f .under))))) in
+      (λ k q. let f = first-found test 0 n k q in
+      let h : k < length (paths v) = omega (arith, f .under, counted) in
       let best : bestGiven paths (lastHeard paths heard v) v ≡ getD (paths v) k [] =
       first-at extended (paths v) k h (sym (slot-heard k h) ∙ f .passes)
       (λ j l. sym (slot-heard j (omega arith)) ∙ f .earliest j (omega arith) l) in

@@ -5,6 +5,7 @@ ghost use lib.ListN.{getD};
 ghost use Rattle.rests.specs.Rests.{hearsByte};
 ghost use Rattle.choice.specs.Choosing.{chosenSlot, choiceByte, choicesBy};
 ghost use Rattle.choice.specs.FoundSlot.{foundByte};
+use pairs::NOBODY;
 use slices::byte_at;
 use table_facts::SLOTS;
 
@@ -28,15 +29,19 @@ fn is_heard(heard: &[u8], v: u8, u: u8, asked: u8) -> bool
 }
 
 // The first of v's slots, in rank order, whose rest is what v last heard from the next hop, or none at the end.
-fn choose(nexts: [u8; 16], asked: [u8; 16], heard: &[u8], v: u8) -> Found
-    ensures { λ r. ⌜ foundByte r ≡ chosenSlot nexts asked (now (heard .entry)) v ⌝ }
+fn choose(nexts: &[u8; 16], asked: &[u8; 16], heard: &[u8], v: u8) -> Found
+    ensures { λ r. ⌜ foundByte r ≡ chosenSlot (now (nexts .entry)) (now (asked .entry)) (now (heard .entry)) v ⌝ }
 {
     let mut k = 0;
     let found = loop {
         if k == SLOTS {
             break Found::Nothing;
         }
-        if is_heard(heard, v, nexts[k], asked[k]) {
+        let u = nexts[k];
+        if u == NOBODY {
+            break Found::Nothing;
+        }
+        if is_heard(heard, v, u, asked[k]) {
             break Found::Slot(k as u8);
         }
         k += 1;
@@ -56,8 +61,8 @@ fn byte_of(found: Found) -> u8
 }
 
 // The byte for the present choice of v; the destination's is always (0), stored as 1.
-pub fn choice_byte(nexts: [u8; 16], asked: [u8; 16], heard: &[u8], v: u8) -> u8
-    ensures { λ r. ⌜ r ≡ choiceByte nexts asked (now (heard .entry)) v ⌝ }
+pub fn choice_byte(nexts: &[u8; 16], asked: &[u8; 16], heard: &[u8], v: u8) -> u8
+    ensures { λ r. ⌜ r ≡ choiceByte (now (nexts .entry)) (now (asked .entry)) (now (heard .entry)) v ⌝ }
 {
     if v == 0 {
         return DESTINATION_CHOICE;
@@ -73,7 +78,7 @@ pub fn choice_bytes(nexts: &[[u8; 16]; 64], asked: &[[u8; 16]; 64], heard: &[u8]
     let mut v = 0;
     while v < 64 {
         let at = v as usize;
-        bytes[at] = choice_byte(nexts[at], asked[at], heard, v);
+        bytes[at] = choice_byte(&nexts[at], &asked[at], heard, v);
         v += 1;
     }
     bytes

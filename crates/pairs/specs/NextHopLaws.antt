@@ -38,6 +38,18 @@ module _ (nexts : List ℕ) (u : ℕ) where
     unfolding slotTo
     slot-end h = rw (search-end there 16 k _ come h, slotTo)
 
+    -- past a slot that leads elsewhere it lies behind
+    pub slot-later : k < 16 → getD nexts k 0 ≢ u → k < slotTo nexts u
+    unfolding slotTo
+    slot-later h f =
+        by-option (firstFrom there 0 16)
+        (λ q. let z : slotTo nexts u ≡ 16 = rw (q, slotTo) in omega arith)
+        (λ j q. let z : slotTo nexts u ≡ j = rw (q, slotTo) in
+        let r = first-found there k (16 - k) j (come ∙ q) in
+        by-equal j k
+        (λ e. absurd (f (eqb-true _ u (rw e at (r .passes)))))
+        (λ e. omega (arith, r .from)))
+
   -- a slot that is found leads to u, and is no later than any that does
   slot-found : slotTo nexts u < 16 → Found there 0 16 (slotTo nexts u)
   unfolding slotTo
@@ -190,6 +202,16 @@ module _ (own : List Path) (few : length own ≤ 16) where
   next-past : (k : ℕ) → length own ≤ k → k < 16 → getD (nextRow own) k 0 ≡ 255
   next-past k h l = row-at k l ∙ List·getD-eq-default (map nextHop own) 255 {n = k} (omega (arith, length-map own nextHop))
 
+  -- the first empty slot tells how many paths there are
+  pub filled-count : ((k : ℕ) → k < length own → nextHop (getD own k []) < 64) → slotTo (nextRow own) 255 ≡ length own
+  filled-count small =
+      by-less (slotTo (nextRow own) 255) (length own)
+      (λ l. let n : slotTo (nextRow own) 255 < 16 = omega arith in
+      absurd (omega (arith, slot-leads (nextRow own) 255 n, next-at (slotTo (nextRow own) 255) l, small (slotTo (nextRow own) 255) l)))
+      (λ l. by-less (length own) 16
+      (λ h. omega (arith, slot-before (nextRow own) 255 (length own) h (next-past (length own) (omega arith) h)))
+      (λ h. omega (arith, slot-small (nextRow own) 255 _ refl)))
+
   -- the slots lead where the paths do
   pub leads-told : (u : ℕ) → u < 64 → leadsIn (nextRow own) u ≡ leadsTo own u
   leads-told u h =
@@ -205,11 +227,20 @@ module _ (own : List Path) (few : length own ≤ 16) where
       absurd (omega (arith, few, slot-before (nextRow own) u (r .0) (omega (arith, r .1)) (next-at (r .0) (r .1) ∙ eqb-true _ u (r .2)), r .1)))
       (λ q. q)))
 
+pub own-count : (paths : ℕ → List Path) (present : ℕ → Bool) → Shaped paths present → (v : ℕ) → slotTo (nextRow (paths v)) 255 ≡ length (paths v)
+unfolding nextHop
+own-count paths present shaped v =
+    filled-count (paths v) (shaped .few v) (λ k h. let p = shaped .permitted v k h in p .vertices 1 (p .long))
+
 module _ (paths : ℕ → List Path) (present : ℕ → Bool) (shaped : Shaped paths present) (nexts : List (List ℕ))
     (found : nexts ≡ tabulate (λ v. nextRow (paths v)) 64) where
   -- each vertex has its row
   pub row-told : (v : ℕ) → v < 64 → getD nexts v [] ≡ nextRow (paths v)
   row-told v h = ap (λ (l : List (List ℕ)). getD l v []) found ∙ tabulate-at (λ w. nextRow (paths w)) 64 v [] h
+
+  -- the first empty slot of a vertex tells how many paths it has
+  pub count-told : (v : ℕ) → v < 64 → slotTo (getD nexts v []) 255 ≡ length (paths v)
+  count-told v h = ap (λ (row : List ℕ). slotTo row 255) (row-told v h) ∙ own-count paths present shaped v
 
   -- what is no vertex does not listen and is not listened to
   silent : (v u : ℕ) → (listens paths v u ≡ true → ⊥) → listens paths v u ≡ false

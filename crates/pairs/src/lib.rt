@@ -11,7 +11,7 @@ use table_facts::SLOTS;
 use table_facts::slots_of;
 
 // The next hop of an empty slot.
-const NOBODY: u8 = 255;
+pub const NOBODY: u8 = 255;
 // The number of vertices.
 const VERTICES: u8 = 64;
 
@@ -53,8 +53,8 @@ pub fn next_hops(table: &[u8]) -> [[u8; 16]; 64]
 }
 
 // The first slot that leads to u, 16 where none does.
-pub fn slot_to(nexts: [u8; 16], u: u8) -> usize
-    ensures { λ r. ⌜ r ≡ slotTo nexts u ⌝ }
+pub fn slot_to(nexts: &[u8; 16], u: u8) -> usize
+    ensures { λ r. ⌜ r ≡ slotTo (now (nexts .entry)) u ⌝ }
 {
     let mut k = 0;
     while k < SLOTS {
@@ -67,8 +67,8 @@ pub fn slot_to(nexts: [u8; 16], u: u8) -> usize
 }
 
 // Whether a slot leads to the vertex u; what is no vertex is never led to.
-fn leads_to(nexts: [u8; 16], u: u8) -> bool
-    ensures { λ r. ⌜ r ≡ leadsIn nexts u ⌝ }
+fn leads_to(nexts: &[u8; 16], u: u8) -> bool
+    ensures { λ r. ⌜ r ≡ leadsIn (now (nexts .entry)) u ⌝ }
 {
     if VERTICES <= u {
         return false;
@@ -77,8 +77,8 @@ fn leads_to(nexts: [u8; 16], u: u8) -> bool
 }
 
 // How many vertices the slots lead to: those that no slot before leads to are counted.
-fn count_row(nexts: [u8; 16]) -> u16
-    ensures { λ r. ⌜ r ≡ countBelow (leadsIn nexts) 64 ⌝ }
+fn count_row(nexts: &[u8; 16]) -> u16
+    ensures { λ r. ⌜ r ≡ countBelow (leadsIn (now (nexts .entry))) 64 ⌝ }
 {
     let mut count = 0;
     let mut k = 0;
@@ -103,7 +103,7 @@ pub fn is_listening(nexts: &[[u8; 16]; 64], v: u8, u: u8) -> bool
     if VERTICES <= v {
         return false;
     }
-    leads_to(nexts[v as usize], u)
+    leads_to(&nexts[v as usize], u)
 }
 
 // How many pairs listen.
@@ -113,7 +113,7 @@ pub fn count_pairs(nexts: &[[u8; 16]; 64]) -> u16
     let mut count = 0;
     let mut v = 0;
     while v < 64 {
-        count += count_row(nexts[v]);
+        count += count_row(&nexts[v]);
         v += 1;
     }
     count

@@ -29,14 +29,14 @@ cast-at c = omega arith
 mul-choice-byte : tie.Need-mul-choice-byte Inv-loop μ-loop
 mul-choice-byte c = omega arith
 
-element-copy-out-choice-byte : tie.Need-element-copy-out-choice-byte Inv-loop μ-loop
-element-copy-out-choice-byte c = omega arith
+index-1-choice-byte : tie.Need-index-1-choice-byte Inv-loop μ-loop
+index-1-choice-byte c = omega arith
 
 mul-choice-byte-2 : tie.Need-mul-choice-byte-2 Inv-loop μ-loop
 mul-choice-byte-2 c = omega arith
 
-element-copy-out-choice-byte-2 : tie.Need-element-copy-out-choice-byte-2 Inv-loop μ-loop
-element-copy-out-choice-byte-2 c = omega arith
+index-1-choice-byte-2 : tie.Need-index-1-choice-byte-2 Inv-loop μ-loop
+index-1-choice-byte-2 c = omega arith
 
 choice-byte-requires : tie.Need-choice-byte-requires Inv-loop μ-loop
 choice-byte-requires c κs = omega arith
@@ -72,9 +72,9 @@ choice-bytes-spec =
     loop-holds
     cast-at
     mul-choice-byte
-    element-copy-out-choice-byte
+    index-1-choice-byte
     mul-choice-byte-2
-    element-copy-out-choice-byte-2
+    index-1-choice-byte-2
     choice-byte-requires
     array-write-bytes
     add-v

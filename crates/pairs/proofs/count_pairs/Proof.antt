@@ -21,8 +21,8 @@ loop-holds c = (omega arith, omega arith, pairs-none _)
 mul-count-row : tie.Need-mul-count-row Inv-loop μ-loop
 mul-count-row c = omega arith
 
-element-copy-out-count-row : tie.Need-element-copy-out-count-row Inv-loop μ-loop
-element-copy-out-count-row c = omega arith
+index-1-count-row : tie.Need-index-1-count-row Inv-loop μ-loop
+index-1-count-row c = omega arith
 
 count-row-requires : tie.Need-count-row-requires Inv-loop μ-loop
 count-row-requires c κs = omega arith
@@ -58,7 +58,7 @@ count-pairs-spec =
     μ-loop
     loop-holds
     mul-count-row
-    element-copy-out-count-row
+    index-1-count-row
     count-row-requires
     add-count
     add-v

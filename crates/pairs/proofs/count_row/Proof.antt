@@ -20,19 +20,19 @@ loop-holds c = (omega arith, omega arith, met-none _)
 add-k : tie.Need-add-k Inv-loop μ-loop
 add-k c = omega arith
 
-array-read-if1 : tie.Need-array-read-if1 Inv-loop μ-loop
-array-read-if1 c = omega arith
+element-copy-out-if1 : tie.Need-element-copy-out-if1 Inv-loop μ-loop
+element-copy-out-if1 c = omega arith
 
 loop-less : tie.Need-loop-less Inv-loop μ-loop
 loop-less c = omega arith
 
 loop-again : tie.Need-loop-again Inv-loop μ-loop
 loop-again c =
-    let i = c .before .before .loop .inv in
+    let i = c .before .before .before .loop .inv in
     (omega arith, omega (arith, i .1), met-no-vertex _ _ _ (i .2) (omega arith) (omega arith))
 
-array-read-slot-to : tie.Need-array-read-slot-to Inv-loop μ-loop
-array-read-slot-to c = omega arith
+element-copy-out-slot-to : tie.Need-element-copy-out-slot-to Inv-loop μ-loop
+element-copy-out-slot-to c = omega arith
 
 slot-to-requires : tie.Need-slot-to-requires Inv-loop μ-loop
 slot-to-requires c κs = omega arith
@@ -42,19 +42,23 @@ loop-less-2 c = omega arith
 
 loop-again-2 : tie.Need-loop-again-2 Inv-loop μ-loop
 loop-again-2 c =
-    let i = c .before .before .before .before .loop .inv in
-    (omega arith, omega (arith, i .1), met-again _ _ _ (i .2) (omega arith) _ (c .before .slot-to .ensures) (omega arith))
+    let at-slot = c .before in
+    let i = at-slot .before .before .before .before .before .loop .inv in
+    (omega arith, omega (arith, i .1), met-again _ _ _ (i .2) (omega arith) _ (at-slot .slot-to .ensures) (omega arith))
 
 add-count : tie.Need-add-count Inv-loop μ-loop
-add-count c = omega (arith, c .before .before .before .before .loop .inv .1)
+add-count c =
+    let at-slot = c .before in
+    omega (arith, at-slot .before .before .before .before .before .loop .inv .1)
 
 loop-less-3 : tie.Need-loop-less-3 Inv-loop μ-loop
 loop-less-3 c = omega arith
 
 loop-again-3 : tie.Need-loop-again-3 Inv-loop μ-loop
 loop-again-3 c =
-    let i = c .before .before .before .before .loop .inv in
-    (omega arith, omega (arith, i .1), met-more _ _ _ (i .2) (omega arith) _ (c .before .slot-to .ensures) (omega arith) (omega arith))
+    let at-slot = c .before in
+    let i = at-slot .before .before .before .before .before .loop .inv in
+    (omega arith, omega (arith, i .1), met-more _ _ _ (i .2) (omega arith) _ (at-slot .slot-to .ensures) (omega arith) (omega arith))
 
 returns : tie.Need-returns Inv-loop μ-loop
 returns c = let i = c .before .loop .inv in met-all _ _ _ (i .2) (i .0) (omega arith)
@@ -67,10 +71,10 @@ count-row-spec =
     μ-loop
     loop-holds
     add-k
-    array-read-if1
+    element-copy-out-if1
     loop-less
     loop-again
-    array-read-slot-to
+    element-copy-out-slot-to
     slot-to-requires
     loop-less-2
     loop-again-2

@@ -13,8 +13,8 @@ returns c = hears-other _ _ _ (omega arith)
 mul-leads-to : tie.Need-mul-leads-to
 mul-leads-to c = search needs
 
-element-copy-out-leads-to : tie.Need-element-copy-out-leads-to
-element-copy-out-leads-to c = search needs
+index-1-leads-to : tie.Need-index-1-leads-to
+index-1-leads-to c = search needs
 
 leads-to-requires : tie.Need-leads-to-requires
 leads-to-requires c κs = search needs
@@ -24,4 +24,4 @@ returns-2 c = c .leads-to .ensures ∙ hears-vertex _ _ _ (omega arith)
 
 pub is-listening-spec : {M : Type 1} → statement M
 is-listening-spec =
-    tie.close (tie.spec returns mul-leads-to element-copy-out-leads-to leads-to-requires returns-2)
+    tie.close (tie.spec returns mul-leads-to index-1-leads-to leads-to-requires returns-2)
