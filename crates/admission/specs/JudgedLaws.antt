@@ -1,29 +1,28 @@
 -- Laws of what is judged before the first store: each walk of the code, and that the answers are those of the rules.
 use mathlib.Core.Path.{_≡_, refl, sym, ap, _∙_}
-use mathlib.Core.Logic.{_≢_, _⊎_, inl, inr, ⊎-elim}
+use mathlib.Core.Logic.{_≢_}
 use mathlib.Core.Bool.{Bool, true, false, not}
-use mathlib.Core.List.{List}
+use mathlib.Core.List.{List, []}
 use mathlib.Core.Option.{Option, none, some}
 use Prim.Native.Nat.{ℕ, _+_, _*_, _/_, _%_, _<_, _≤_}
 use native.Mathlib.Omega.{arith}
-use lib.ListN.{length, getD, drop, List·getD-eq-default}
+use lib.ListN.{length, getD, drop}
 use lib.Dec.{ltb}
-use borrow.Author.Tests.{lt-ltb, le-ltb, ne-eqb}
+use borrow.Author.Tests.{eq-eqb, ne-eqb}
 use Rattle.lists.specs.Search.{firstIn}
 use Rattle.lists.specs.Fill.{tabulate}
-use Rattle.lists.specs.Tests.{by-test, by-less, by-option}
+use Rattle.lists.specs.Tests.{by-equal, by-option}
 use Rattle.lists.specs.ListLaws.{first-in-under, first-in-ext, seek-hit, seek-next, seek-end}
-use Rattle.lists.specs.FillLaws.{tabulate-at, tabulate-length}
 use Rattle.rules.specs.Table.{Path, listens, listensAt}
-use Rattle.rules.specs.Machine.{Pair, offsetOf, speaks, badAt, badByte, heardFault}
+use Rattle.rules.specs.Machine.{Pair, speaks, badAt, badByte, heardFault}
 use Rattle.rules.specs.Run.{pairsIn}
 use Rattle.rules.specs.Answers.{firstBadPair}
 use Rattle.laws.specs.Shape.{Shaped}
-use Rattle.laws.specs.MachineLaws.{bad-same, listening, offset-listens}
+use Rattle.laws.specs.MachineLaws.{speaks-destination, speaks-other, bad-same}
 use Rattle.laws.specs.ScheduleLaws.{pairs-length, pairs-at}
-use Rattle.pairs.specs.NextHops.{nextRow, hearsFrom, listensIn}
-use Rattle.pairs.specs.NextHopLaws.{hears-other, hears-told, all-listens}
-use Rattle.admission.specs.Judged.{placeOr, badHeard, badOffset, unheard, badPair}
+use Rattle.pairs.specs.NextHops.{nextRow, slotTo, hearsFrom, listensIn}
+use Rattle.pairs.specs.NextHopLaws.{hears-other, hears-told, all-listens, count-told}
+use Rattle.admission.specs.Judged.{placeOr, spokenIn, badHeard, badOffset, unheard, badPair}
 
 -- a place that was found, and none
 
@@ -47,42 +46,52 @@ module _ {A : Type 0} (test : ℕ → A → Bool) (l : List A) (n r : ℕ) (long
       by-option (firstIn test 0 l) (λ q. absurd (f (found ∙ place-none n (firstIn test 0 l) q)))
       (λ k q. q ∙ ap some (sym (found ∙ place-some n (firstIn test 0 l) k q)))
 
+-- how many paths a vertex can speak of
+
+pub spoken-destination : (nexts : List (List ℕ)) (u : ℕ) → u ≡ 0 → 1 ≡ spokenIn nexts u
+unfolding spokenIn
+spoken-destination nexts u e = rw (eq-eqb u 0 e, spokenIn)
+
+pub spoken-other : (nexts : List (List ℕ)) (u n : ℕ) → u ≢ 0 → n ≡ slotTo (getD nexts u []) 255 → n ≡ spokenIn nexts u
+unfolding spokenIn
+spoken-other nexts u n f e = e ∙ rw (ne-eqb u 0 f, spokenIn)
+
 -- one byte
 
-module _ (nexts : List (List ℕ)) (most : List ℕ) (k b : ℕ) where
+module _ (nexts : List (List ℕ)) (k b : ℕ) where
   -- 0 is never bad
-  pub byte-silent : b ≡ 0 → false ≡ badHeard nexts most k b
+  pub byte-silent : b ≡ 0 → false ≡ badHeard nexts k b
   unfolding badHeard badAt
   byte-silent e = rw (e, badHeard, badAt)
 
   -- any other byte is bad where nobody listens
-  byte-deaf : b ≢ 0 → listensIn nexts k ≡ false → true ≡ badHeard nexts most k b
+  byte-deaf : b ≢ 0 → listensIn nexts k ≡ false → true ≡ badHeard nexts k b
   unfolding badHeard badAt
   byte-deaf f e = rw (ne-eqb b 0 f, badHeard, badAt, e)
 
-  pub byte-past : b ≢ 0 → 4096 ≤ k → true ≡ badHeard nexts most k b
+  pub byte-past : b ≢ 0 → 4096 ≤ k → true ≡ badHeard nexts k b
   unfolding listensIn
   byte-past f h = byte-deaf f (sym (hears-other nexts (k / 64) (k % 64) (omega arith)))
 
-  pub byte-unheard : b ≢ 0 → hearsFrom nexts (k / 64) (k % 64) ≡ false → true ≡ badHeard nexts most k b
+  pub byte-unheard : b ≢ 0 → hearsFrom nexts (k / 64) (k % 64) ≡ false → true ≡ badHeard nexts k b
   unfolding listensIn
   byte-unheard f e = byte-deaf f e
 
   -- and elsewhere where the speaker has fewer paths
-  pub byte-heard : (n : ℕ) → b ≢ 0 → hearsFrom nexts (k / 64) (k % 64) ≡ true → n ≡ getD most (k % 64) 0 → ltb n b ≡ badHeard nexts most k b
+  pub byte-heard : (n : ℕ) → b ≢ 0 → hearsFrom nexts (k / 64) (k % 64) ≡ true → n ≡ spokenIn nexts (k % 64) → ltb n b ≡ badHeard nexts k b
   unfolding badHeard badAt listensIn
   byte-heard n f e q = rw (ne-eqb b 0 f, badHeard, badAt, e, q)
 
 -- the search for the lowest bad offset, which has come to k
-module _ (nexts : List (List ℕ)) (most heard : List ℕ) (k : ℕ)
-    (come : firstIn (badHeard nexts most) k (drop k heard) ≡ firstIn (badHeard nexts most) 0 heard) where
-  pub offset-hit : k < length heard → badHeard nexts most k (getD heard k 0) ≡ true → k ≡ badOffset nexts most heard
+module _ (nexts : List (List ℕ)) (heard : List ℕ) (k : ℕ)
+    (come : firstIn (badHeard nexts) k (drop k heard) ≡ firstIn (badHeard nexts) 0 heard) where
+  pub offset-hit : k < length heard → badHeard nexts k (getD heard k 0) ≡ true → k ≡ badOffset nexts heard
   unfolding badOffset
-  offset-hit h e = sym (place-some _ _ k (seek-hit (badHeard nexts most) heard 0 k _ come h e))
+  offset-hit h e = sym (place-some _ _ k (seek-hit (badHeard nexts) heard 0 k _ come h e))
 
-  pub offset-end : k ≡ length heard → k ≡ badOffset nexts most heard
+  pub offset-end : k ≡ length heard → k ≡ badOffset nexts heard
   unfolding badOffset
-  offset-end e = e ∙ sym (place-none _ _ (seek-end (badHeard nexts most) heard 0 k _ come (omega arith)))
+  offset-end e = e ∙ sym (place-none _ _ (seek-end (badHeard nexts) heard 0 k _ come (omega arith)))
 
 -- the search for the first bad pair, which has come to i
 module _ (nexts : List (List ℕ)) (s : List ℕ) (i : ℕ)
@@ -113,19 +122,24 @@ module _ (nexts : List (List ℕ)) (s : List ℕ) (i : ℕ)
   pair-end e =
       e ∙ sym (place-none _ _ (seek-end (unheard nexts) (pairsIn s) none-there i _ come (omega (arith, pairs-length s))))
 
--- the answers over the slots and counts of a table are the rules'
+-- the answers over the slots of a table are the rules'
 module _ (paths : ℕ → List Path) (present : ℕ → Bool) (shaped : Shaped paths present) (nexts : List (List ℕ))
     (leads : nexts ≡ tabulate (λ v. nextRow (paths v)) 64) where
-  module _ (most heard : List ℕ) (r : ℕ)
-      (speak : most ≡ tabulate (λ u. length (speaks paths u)) 64) (long : length heard ≡ 4096) (found : r ≡ badOffset nexts most heard) where
-    same-fault : firstIn (badHeard nexts most) 0 heard ≡ heardFault paths heard
+  -- who can speak of how many paths
+  spoken-told : (u : ℕ) → u < 64 → spokenIn nexts u ≡ length (speaks paths u)
+  spoken-told u h =
+      by-equal u 0
+      (λ z. sym (spoken-destination nexts u z) ∙ sym (ap length (ap (speaks paths) z ∙ speaks-destination paths)))
+      (λ z. sym (spoken-other nexts u _ z refl) ∙ count-told paths present shaped nexts leads u h ∙ sym (ap length (speaks-other paths u z)))
+
+  module _ (heard : List ℕ) (r : ℕ) (long : length heard ≡ 4096) (found : r ≡ badOffset nexts heard) where
+    same-fault : firstIn (badHeard nexts) 0 heard ≡ heardFault paths heard
     unfolding heardFault badByte badHeard
     same-fault =
-        first-in-ext (badHeard nexts most) (badByte paths) heard 0 0
+        first-in-ext (badHeard nexts) (badByte paths) heard 0 0
         (λ k h. let z : 0 + k ≡ k = omega arith in
-        rw z (bad-same (listensIn nexts) (listensAt paths) (λ u. getD most u 0) (λ u. length (speaks paths u)) k (getD heard k 0)
-        (all-listens paths present shaped nexts leads k)
-        (rw speak (tabulate-at (λ u. length (speaks paths u)) 64 (k % 64) 0 (omega arith)))))
+        rw z (bad-same (listensIn nexts) (listensAt paths) (spokenIn nexts) (λ u. length (speaks paths u)) k (getD heard k 0)
+        (all-listens paths present shaped nexts leads k) (spoken-told (k % 64) (omega arith))))
 
     -- no bad offset: the state is valid
     pub fault-none : r ≡ 4096 → heardFault paths heard ≡ none

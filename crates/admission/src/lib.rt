@@ -1,26 +1,29 @@
-// What is judged before the first store, by where the slots lead and how many paths each vertex can speak of.
+// What is judged before the first store, by where the slots lead.
 ghost use mathlib.Core.Path.{_≡_};
-ghost use lib.ListN.{getD};
-ghost use Rattle.admission.specs.Judged.{badHeard, badOffset, badPair};
+ghost use Prim.Native.Nat.{_<_};
+ghost use Rattle.admission.specs.Judged.{spokenIn, badHeard, badOffset, badPair};
+use pairs::NOBODY;
 use pairs::is_listening;
+use pairs::slot_to;
 use table_facts::VERTICES;
 
 // The length of a heard state: a byte for each pair.
 pub const HEARD_LENGTH: usize = 4096;
 
-// The number at a place; past the end it is 0.
-fn number_at(numbers: &[usize], at: usize) -> usize
-    ensures { λ r. ⌜ r ≡ getD (now (numbers .entry)) at 0 ⌝ }
+// How many paths u can speak of: one for the destination, for every other those before its first empty slot.
+fn spoken_by(nexts: &[[u8; 16]; 64], u: usize) -> usize
+    requires { ⌜ u < 64 ⌝ }
+    ensures { λ r. ⌜ r ≡ spokenIn (now (nexts .entry)) u ⌝ }
 {
-    if numbers.len() <= at {
-        return 0;
+    if u == 0 {
+        return 1;
     }
-    numbers[at]
+    slot_to(&nexts[u], NOBODY)
 }
 
 // Whether the byte b at the offset k is bad; most bytes of a state are 0, so that is asked first.
-fn is_bad(nexts: &[[u8; 16]; 64], most: &[usize], k: usize, b: u8) -> bool
-    ensures { λ r. ⌜ r ≡ badHeard (now (nexts .entry)) (now (most .entry)) k b ⌝ }
+fn is_bad(nexts: &[[u8; 16]; 64], k: usize, b: u8) -> bool
+    ensures { λ r. ⌜ r ≡ badHeard (now (nexts .entry)) k b ⌝ }
 {
     if b == 0 {
         return false;
@@ -31,16 +34,16 @@ fn is_bad(nexts: &[[u8; 16]; 64], most: &[usize], k: usize, b: u8) -> bool
     if !is_listening(nexts, (k / VERTICES) as u8, (k % VERTICES) as u8) {
         return true;
     }
-    number_at(most, k % VERTICES) < b as usize
+    spoken_by(nexts, k % VERTICES) < b as usize
 }
 
 // The lowest bad offset, the state's length where none is.
-pub fn bad_offset(nexts: &[[u8; 16]; 64], most: &[usize], heard: &[u8]) -> usize
-    ensures { λ r. ⌜ r ≡ badOffset (now (nexts .entry)) (now (most .entry)) (now (heard .entry)) ⌝ }
+pub fn bad_offset(nexts: &[[u8; 16]; 64], heard: &[u8]) -> usize
+    ensures { λ r. ⌜ r ≡ badOffset (now (nexts .entry)) (now (heard .entry)) ⌝ }
 {
     let mut k = 0;
     while k < heard.len() {
-        if is_bad(nexts, most, k, heard[k]) {
+        if is_bad(nexts, k, heard[k]) {
             return k;
         }
         k += 1;

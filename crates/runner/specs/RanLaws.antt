@@ -76,7 +76,7 @@ module _ (s : List ℕ) where
       (is-inside 0 0 (length s % 2) (omega arith) (omega arith)) (le-ltb 32768 (length s) h)
 
 -- over an accepted table that has been surveyed
-module _ {t heard : List ℕ} {nexts : List (List ℕ)} {most : List ℕ} {at : ℕ} (y : Surveyed t heard nexts most at)
+module _ {t heard : List ℕ} {nexts : List (List ℕ)} {at : ℕ} (y : Surveyed t heard nexts at)
     (s : List ℕ) (sums : List ℤ) (m : length sums ≡ 64) where
   -- the state is not valid
   pub run-heard-bad : at ≢ 4096 → (a : RunAnswer) → a ≡ refused 12 at → Ran t heard s sums a heard sums

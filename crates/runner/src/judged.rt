@@ -11,7 +11,6 @@ use admission::bad_pair;
 use answer::RunAnswer;
 use answer::RunVerdict;
 use pairs::next_hops;
-use table_facts::spoken_in;
 
 // The longest schedule.
 const LONGEST_SCHEDULE: usize = 32768;
@@ -40,8 +39,7 @@ pub(crate) fn run_accepted(
     ensures { λ r. ⌜ Ran (now (table .entry)) (now (heard .entry)) (now (schedule .entry)) (now (sums .entry)) r (now (heard .exit)) (now (sums .exit)) ⌝ }
 {
     let nexts = next_hops(table);
-    let most = spoken_in(table);
-    let at = bad_offset(&nexts, &most, heard);
+    let at = bad_offset(&nexts, heard);
     if at != HEARD_LENGTH {
         return refusal_of(12, at);
     }

@@ -69,13 +69,13 @@ pub(crate) fn work(
         let v = listener as usize;
         let old = choices[v];
         let said = choices[speaker as usize];
-        let new = hear(nexts[v], asked[v], heard, listener, speaker, said);
+        let new = hear(&nexts[v], &asked[v], heard, listener, speaker, said);
         choices[v] = new;
         add(sums, v, movement(old, new));
         counts = counted(counts, i as u32, old, new);
         rounds = activate(
             &mut stamps,
-            16 * v + slot_to(nexts[v], speaker),
+            16 * v + slot_to(&nexts[v], speaker),
             rounds,
             all,
         );

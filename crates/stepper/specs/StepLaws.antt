@@ -15,7 +15,7 @@ use Rattle.lists.specs.FillLaws.{tabulate-at}
 use Rattle.rules.specs.Table.{Path, records, pathsOf, slotsOf, present, listens}
 use Rattle.rules.specs.Refusals.{Refusal, refusal}
 use Rattle.rules.specs.Report.{rankIn}
-use Rattle.rules.specs.Machine.{Pair, offsetOf, speaks, byteFor, heardFault, choice, choiceBytes, step, standingOf, standing, movement}
+use Rattle.rules.specs.Machine.{Pair, offsetOf, byteFor, heardFault, choice, choiceBytes, step, standingOf, standing, movement}
 use Rattle.laws.specs.MachineLaws.{listening, speaks-other, rank-most, movement-most}
 use Rattle.rules.specs.Answers.{unless, choicesIn, stepRefusal, stepMovement, heardAfterStep}
 use Rattle.laws.specs.AnswerLaws.{step-refused-heard, step-refused-pair, step-accepted}
@@ -154,18 +154,17 @@ module _ (table heard : List ℕ) (p : Pair) where
   unfolding stepRefusalIn movementIn stepMovement heardAfterStep unless
   stepped-accepted m after e q r = record { refusal = sym e; movement = q ∙ rw e; heard = r ∙ rw e }
 
--- over an accepted table, with where its slots lead and who speaks of how many paths
+-- over an accepted table, with where its slots lead
 
-pub surveyed : {t heard : List ℕ} {nexts : List (List ℕ)} {most : List ℕ} {at : ℕ}
+pub surveyed : {t heard : List ℕ} {nexts : List (List ℕ)} {at : ℕ}
     → refusal t ≡ none
     → length heard ≡ 4096
     → nexts ≡ tabulate (λ v. nextRow (slotted t v)) 64
-    → most ≡ tabulate (λ u. length (speaks (pathsOf t) u)) 64
-    → at ≡ badOffset nexts most heard
-    → Surveyed t heard nexts most at
-surveyed e n l s f = record { accepted = e; long = n; leads = l; speak = s; found = f }
+    → at ≡ badOffset nexts heard
+    → Surveyed t heard nexts at
+surveyed e n l f = record { accepted = e; long = n; leads = l; found = f }
 
-module _ {t heard : List ℕ} {nexts : List (List ℕ)} {most : List ℕ} {at : ℕ} (y : Surveyed t heard nexts most at) where
+module _ {t heard : List ℕ} {nexts : List (List ℕ)} {at : ℕ} (y : Surveyed t heard nexts at) where
   shape : Shaped (pathsOf t) (present t)
   shape = shaped t (y .accepted)
 
@@ -174,10 +173,10 @@ module _ {t heard : List ℕ} {nexts : List (List ℕ)} {most : List ℕ} {at : 
 
   -- the state is valid, or it has its lowest bad offset
   pub survey-valid : at ≡ 4096 → heardFault (pathsOf t) heard ≡ none
-  survey-valid = fault-none (pathsOf t) (present t) shape nexts survey-rows most heard at (y .speak) (y .long) (y .found)
+  survey-valid = fault-none (pathsOf t) (present t) shape nexts survey-rows heard at (y .long) (y .found)
 
   pub survey-bad : at ≢ 4096 → heardFault (pathsOf t) heard ≡ some at
-  survey-bad = fault-some (pathsOf t) (present t) shape nexts survey-rows most heard at (y .speak) (y .long) (y .found)
+  survey-bad = fault-some (pathsOf t) (present t) shape nexts survey-rows heard at (y .long) (y .found)
 
   -- the state is not valid
   pub way-heard : (p : Pair) → at ≢ 4096 → Stepped t heard p (Refused 12 at) heard

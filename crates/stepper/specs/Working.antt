@@ -6,9 +6,8 @@ use mathlib.Core.List.{List}
 use mathlib.Core.Option.{none}
 use lib.ListN.{length, set}
 use Rattle.lists.specs.Fill.{tabulate}
-use Rattle.rules.specs.Table.{Path, pathsOf}
+use Rattle.rules.specs.Table.{Path}
 use Rattle.rules.specs.Refusals.{refusal}
-use Rattle.rules.specs.Machine.{speaks}
 use Rattle.pairs.specs.SlotPaths.{slotted}
 use Rattle.pairs.specs.NextHops.{nextRow}
 use Rattle.rests.specs.Rests.{askedRow}
@@ -30,13 +29,12 @@ pub record Workable (t heard : List ℕ) (v u : ℕ) : Type 0 where
   pub other : v ≢ 0
   pub speaker : u < 64
 
--- an accepted table and a heard state of the right length, with where the slots lead, who speaks of how many paths, and the lowest bad offset
-pub record Surveyed (t heard : List ℕ) (nexts : List (List ℕ)) (most : List ℕ) (at : ℕ) : Type 0 where
+-- an accepted table and a heard state of the right length, with where the slots lead and the lowest bad offset
+pub record Surveyed (t heard : List ℕ) (nexts : List (List ℕ)) (at : ℕ) : Type 0 where
   pub accepted : refusal t ≡ none
   pub long : length heard ≡ 4096
   pub leads : nexts ≡ tabulate (λ v. nextRow (slotted t v)) 64
-  pub speak : most ≡ tabulate (λ u. length (speaks (pathsOf t) u)) 64
-  pub found : at ≡ badOffset nexts most heard
+  pub found : at ≡ badOffset nexts heard
 
 -- what u says is stored at 64v+u, and v chooses
 pub record Heard (nexts asked before : List ℕ) (v u said new : ℕ) (after : List ℕ) : Type 0 where

@@ -17,7 +17,6 @@ use reader::Reading;
 use reader::read;
 use rests::asked_row;
 use table_facts::slots_of;
-use table_facts::spoken_in;
 use tally::movement;
 
 // Stores a byte, where there is a place for it.
@@ -31,8 +30,8 @@ fn store(heard: &mut [u8], at: usize, byte: u8)
 }
 
 // Stores what u says at 64v+u, and answers the byte of v's choice then.
-pub fn hear(nexts: [u8; 16], asked: [u8; 16], heard: &mut [u8], v: u8, u: u8, said: u8) -> u8
-    ensures { λ r. ⌜ Heard nexts asked (now (heard .entry)) v u said r (now (heard .exit)) ⌝ }
+pub fn hear(nexts: &[u8; 16], asked: &[u8; 16], heard: &mut [u8], v: u8, u: u8, said: u8) -> u8
+    ensures { λ r. ⌜ Heard (now (nexts .entry)) (now (asked .entry)) (now (heard .entry)) v u said r (now (heard .exit)) ⌝ }
 {
     store(heard, 64 * v as usize + u as usize, said);
     choice_byte(nexts, asked, heard, v)
@@ -48,14 +47,10 @@ fn work_pair(table: &[u8], nexts: &[[u8; 16]; 64], heard: &mut [u8], v: u8, u: u
     let mine = slots[v as usize];
     let theirs = slots[u as usize];
     let asked = asked_row(table, &slots, mine);
-    let old = choice_byte(nexts[v as usize], asked, heard, v);
-    let said = choice_byte(
-        nexts[u as usize],
-        asked_row(table, &slots, theirs),
-        heard,
-        u,
-    );
-    let new = hear(nexts[v as usize], asked, heard, v, u, said);
+    let asking = asked_row(table, &slots, theirs);
+    let old = choice_byte(&nexts[v as usize], &asked, heard, v);
+    let said = choice_byte(&nexts[u as usize], &asking, heard, u);
+    let new = hear(&nexts[v as usize], &asked, heard, v, u, said);
     movement(old, new)
 }
 
@@ -65,8 +60,7 @@ fn step_accepted(table: &[u8], heard: &mut [u8], listener: u8, speaker: u8) -> S
     ensures { λ r. ⌜ Stepped (now (table .entry)) (now (heard .entry)) (record { listener = listener; speaker = speaker }) r (now (heard .exit)) ⌝ }
 {
     let nexts = next_hops(table);
-    let most = spoken_in(table);
-    let at = bad_offset(&nexts, &most, heard);
+    let at = bad_offset(&nexts, heard);
     if at != HEARD_LENGTH {
         return StepAnswer::Refused(12, at);
     }

@@ -13,11 +13,11 @@ use Rattle.admission.proofs.bad_offset.Statement.{statement}
 use Rattle.admission.proofs.bad_offset.Tie as tie
 
 abbrev Inv-loop : tie.InvT-loop
-Inv-loop nexts most heard k₀ k =
-    (k ≤ length heard) × (firstIn (badHeard nexts most) k (drop k heard) ≡ firstIn (badHeard nexts most) 0 heard)
+Inv-loop nexts heard k₀ k =
+    (k ≤ length heard) × (firstIn (badHeard nexts) k (drop k heard) ≡ firstIn (badHeard nexts) 0 heard)
 
 abbrev μ-loop : tie.MeasureT-loop
-μ-loop nexts most heard k₀ k = length heard - k
+μ-loop nexts heard k₀ k = length heard - k
 
 loop-holds : tie.Need-loop-holds Inv-loop μ-loop
 loop-holds c = (omega arith, refl)
@@ -31,7 +31,7 @@ is-bad-requires c κs = search needs
 returns : tie.Need-returns Inv-loop μ-loop
 returns c =
     let a = c .before .before .before .before in
-    offset-hit _ _ _ (a .loop .k) (a .loop .inv .1) (c .before .before .before .loop-test .taken)
+    offset-hit _ _ (a .loop .k) (a .loop .inv .1) (c .before .before .before .loop-test .taken)
     (sym (c .before .is-bad .ensures) ∙ c .if1 .taken)
 
 add-k : tie.Need-add-k Inv-loop μ-loop
@@ -49,7 +49,7 @@ loop-again c =
     )
 
 returns-2 : tie.Need-returns-2 Inv-loop μ-loop
-returns-2 c = offset-end _ _ _ (c .before .loop .k) (c .before .loop .inv .1) (omega arith)
+returns-2 c = offset-end _ _ (c .before .loop .k) (c .before .loop .inv .1) (omega arith)
 
 pub bad-offset-spec : {M : Type 1} → statement M
 bad-offset-spec =

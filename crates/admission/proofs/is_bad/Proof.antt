@@ -1,6 +1,7 @@
 -- `admission::is_bad` meets its contract: 0 is never bad, any other byte where nobody listens or the speaker has fewer paths.
 -- Assumes nothing.
 use mathlib.Core.Path.{sym, _∙_}
+use native.Mathlib.Omega.{arith}
 use borrow.Author.Needs.{needs}
 use borrow.Author.Tests.{not-true, not-false}
 use Rattle.admission.specs.JudgedLaws.{byte-silent, byte-past, byte-unheard, byte-heard}
@@ -8,10 +9,10 @@ use Rattle.admission.proofs.is_bad.Statement.{statement}
 use Rattle.admission.proofs.is_bad.Tie as tie
 
 returns : tie.Need-returns
-returns c = byte-silent _ _ _ _ (c .if1 .taken)
+returns c = byte-silent _ _ _ (c .if1 .taken)
 
 returns-2 : tie.Need-returns-2
-returns-2 c = byte-past _ _ _ _ (c .before .if1 .left) (c .if2 .taken)
+returns-2 c = byte-past _ _ _ (c .before .if1 .left) (c .if2 .taken)
 
 cast-is-listening : tie.Need-cast-is-listening
 cast-is-listening c = search needs
@@ -25,16 +26,16 @@ is-listening-requires c κs = search needs
 returns-3 : tie.Need-returns-3
 returns-3 c =
     let at-ask = c .before in
-    byte-unheard _ _ _ _ (at-ask .before .before .if1 .left) (sym (at-ask .is-listening .ensures) ∙ not-true _ (c .if3 .taken))
+    byte-unheard _ _ _ (at-ask .before .before .if1 .left) (sym (at-ask .is-listening .ensures) ∙ not-true _ (c .if3 .taken))
 
-number-at-requires : tie.Need-number-at-requires
-number-at-requires c κs = search needs
+spoken-by-requires : tie.Need-spoken-by-requires
+spoken-by-requires c κs = omega arith
 
 returns-4 : tie.Need-returns-4
 returns-4 c =
     let at-ask = c .before .before in
-    byte-heard _ _ _ _ _ (at-ask .before .before .if1 .left) (sym (at-ask .is-listening .ensures) ∙ not-false _ (c .before .if3 .left))
-    (c .number-at .ensures)
+    byte-heard _ _ _ _ (at-ask .before .before .if1 .left) (sym (at-ask .is-listening .ensures) ∙ not-false _ (c .before .if3 .left))
+    (c .spoken-by .ensures)
 
 pub is-bad-spec : {M : Type 1} → statement M
 is-bad-spec =
@@ -46,5 +47,5 @@ is-bad-spec =
     cast-is-listening-2
     is-listening-requires
     returns-3
-    number-at-requires
+    spoken-by-requires
     returns-4)

@@ -9,12 +9,6 @@ use Rattle.stepper.proofs.step_accepted.Tie as tie
 next-hops-requires : tie.Need-next-hops-requires
 next-hops-requires c κs = search needs
 
-spoken-in-requires : tie.Need-spoken-in-requires
-spoken-in-requires c κs = search needs
-
-slice-aggregate-bad-offset : tie.Need-slice-aggregate-bad-offset
-slice-aggregate-bad-offset c = search needs
-
 bad-offset-requires : tie.Need-bad-offset-requires
 bad-offset-requires c κs = search needs
 
@@ -24,10 +18,9 @@ same-length c = search needs
 returns : tie.Need-returns
 returns c =
     let at-found = c .before in
-    let at-most = at-found .before .before .before .before in
-    let at-nexts = at-most .before in
+    let at-nexts = at-found .before .before .before in
     let p = at-nexts .before .before .before .pre in
-    let y = surveyed (p .0) (p .1) (at-nexts .next-hops .ensures) (at-most .spoken-in .ensures) (at-found .bad-offset .ensures) in
+    let y = surveyed (p .0) (p .1) (at-nexts .next-hops .ensures) (at-found .bad-offset .ensures) in
     way-heard y _ (c .if1 .taken)
 
 is-listening-requires : tie.Need-is-listening-requires
@@ -40,10 +33,9 @@ returns-2 : tie.Need-returns-2
 returns-2 c =
     let at-asked = c .before in
     let at-found = at-asked .before .before .before in
-    let at-most = at-found .before .before .before .before in
-    let at-nexts = at-most .before in
+    let at-nexts = at-found .before .before .before in
     let p = at-nexts .before .before .before .pre in
-    let y = surveyed (p .0) (p .1) (at-nexts .next-hops .ensures) (at-most .spoken-in .ensures) (at-found .bad-offset .ensures) in
+    let y = surveyed (p .0) (p .1) (at-nexts .next-hops .ensures) (at-found .bad-offset .ensures) in
     let valid = at-asked .before .before .if1 .left in
     way-pair y valid _ _ (at-asked .is-listening .ensures) (not-true _ (c .if2 .taken))
 
@@ -52,10 +44,9 @@ work-pair-requires c κs =
     let at-else = c .before .before in
     let at-asked = at-else .before in
     let at-found = at-asked .before .before .before in
-    let at-most = at-found .before .before .before .before in
-    let at-nexts = at-most .before in
+    let at-nexts = at-found .before .before .before in
     let p = at-nexts .before .before .before .pre in
-    let y = surveyed (p .0) (p .1) (at-nexts .next-hops .ensures) (at-most .spoken-in .ensures) (at-found .bad-offset .ensures) in
+    let y = surveyed (p .0) (p .1) (at-nexts .next-hops .ensures) (at-found .bad-offset .ensures) in
     let valid = at-asked .before .before .if1 .left in
     (way-worked y valid _ _ (at-asked .is-listening .ensures) (not-false _ (at-else .if2 .left)), survey-rows y)
 
@@ -68,10 +59,9 @@ returns-3 c =
     let at-else = at-work .before .before .before in
     let at-asked = at-else .before in
     let at-found = at-asked .before .before .before in
-    let at-most = at-found .before .before .before .before in
-    let at-nexts = at-most .before in
+    let at-nexts = at-found .before .before .before in
     let p = at-nexts .before .before .before .pre in
-    let y = surveyed (p .0) (p .1) (at-nexts .next-hops .ensures) (at-most .spoken-in .ensures) (at-found .bad-offset .ensures) in
+    let y = surveyed (p .0) (p .1) (at-nexts .next-hops .ensures) (at-found .bad-offset .ensures) in
     let valid = at-asked .before .before .if1 .left in
     let e = at-work .work-pair .ensures in
     way-moved y valid _ _ (at-asked .is-listening .ensures) (not-false _ (at-else .if2 .left)) _ _ (e .0) (e .1)
@@ -81,8 +71,6 @@ step-accepted-spec =
     tie.close
     (tie.spec
     next-hops-requires
-    spoken-in-requires
-    slice-aggregate-bad-offset
     bad-offset-requires
     same-length
     returns

@@ -23,11 +23,14 @@ array-copy-out-theirs c = omega arith
 asked-row-requires : tie.Need-asked-row-requires
 asked-row-requires c κs = omega arith
 
+asked-row-requires-2 : tie.Need-asked-row-requires-2
+asked-row-requires-2 c κs = omega arith
+
 mul-choice-byte : tie.Need-mul-choice-byte
 mul-choice-byte c = omega arith
 
-element-copy-out-choice-byte : tie.Need-element-copy-out-choice-byte
-element-copy-out-choice-byte c = omega arith
+index-1-choice-byte : tie.Need-index-1-choice-byte
+index-1-choice-byte c = omega arith
 
 choice-byte-requires : tie.Need-choice-byte-requires
 choice-byte-requires c κs = omega arith
@@ -35,11 +38,8 @@ choice-byte-requires c κs = omega arith
 mul-choice-byte-2 : tie.Need-mul-choice-byte-2
 mul-choice-byte-2 c = omega arith
 
-element-copy-out-choice-byte-2 : tie.Need-element-copy-out-choice-byte-2
-element-copy-out-choice-byte-2 c = omega arith
-
-asked-row-requires-2 : tie.Need-asked-row-requires-2
-asked-row-requires-2 c κs = omega arith
+index-1-choice-byte-2 : tie.Need-index-1-choice-byte-2
+index-1-choice-byte-2 c = omega arith
 
 choice-byte-requires-2 : tie.Need-choice-byte-requires-2
 choice-byte-requires-2 c κs = omega arith
@@ -47,8 +47,8 @@ choice-byte-requires-2 c κs = omega arith
 mul-hear : tie.Need-mul-hear
 mul-hear c = omega arith
 
-element-copy-out-hear : tie.Need-element-copy-out-hear
-element-copy-out-hear c = omega arith
+index-1-hear : tie.Need-index-1-hear
+index-1-hear c = omega arith
 
 hear-requires : tie.Need-hear-requires
 hear-requires c κs = omega arith
@@ -62,10 +62,10 @@ same-length c = omega arith
 returns : tie.Need-returns
 returns c =
     let at-hear = c .before .before .before in
-    let at-said = at-hear .before .before .before in
-    let at-theirs = at-said .before .before in
-    let at-old = at-theirs .before .before .before in
-    let at-mine = at-old .before .before .before in
+    let at-said = at-hear .before .before .before .before in
+    let at-old = at-said .before .before .before .before in
+    let at-theirs = at-old .before .before .before .before in
+    let at-mine = at-theirs .before .before in
     let at-slots = at-mine .before .before .before .before in
     let p = at-slots .before .before .before .pre in
     let h = at-hear .hear .ensures in
@@ -82,15 +82,15 @@ work-pair-spec =
     mul-theirs
     array-copy-out-theirs
     asked-row-requires
+    asked-row-requires-2
     mul-choice-byte
-    element-copy-out-choice-byte
+    index-1-choice-byte
     choice-byte-requires
     mul-choice-byte-2
-    element-copy-out-choice-byte-2
-    asked-row-requires-2
+    index-1-choice-byte-2
     choice-byte-requires-2
     mul-hear
-    element-copy-out-hear
+    index-1-hear
     hear-requires
     movement-requires
     same-length

@@ -9,12 +9,6 @@ use Rattle.runner.proofs.judged.run_accepted.Tie as tie
 next-hops-requires : tie.Need-next-hops-requires
 next-hops-requires c κs = search needs
 
-spoken-in-requires : tie.Need-spoken-in-requires
-spoken-in-requires c κs = search needs
-
-slice-aggregate-bad-offset : tie.Need-slice-aggregate-bad-offset
-slice-aggregate-bad-offset c = search needs
-
 bad-offset-requires : tie.Need-bad-offset-requires
 bad-offset-requires c κs = search needs
 
@@ -27,10 +21,9 @@ same-length c = search needs
 returns : tie.Need-returns
 returns c =
     let at-found = c .before .before in
-    let at-most = at-found .before .before .before .before in
-    let at-nexts = at-most .before in
+    let at-nexts = at-found .before .before .before in
     let p = at-nexts .before .before .before .before .pre in
-    let y = surveyed (p .0) (p .1) (at-nexts .next-hops .ensures) (at-most .spoken-in .ensures) (at-found .bad-offset .ensures) in
+    let y = surveyed (p .0) (p .1) (at-nexts .next-hops .ensures) (at-found .bad-offset .ensures) in
     run-heard-bad y _ _ (p .2) (c .before .if1 .taken) _ (c .refusal-of .ensures)
 
 refusal-of-requires-2 : tie.Need-refusal-of-requires-2
@@ -43,10 +36,9 @@ returns-2 : tie.Need-returns-2
 returns-2 c =
     let at-valid = c .before .before in
     let at-found = at-valid .before in
-    let at-most = at-found .before .before .before .before in
-    let at-nexts = at-most .before in
+    let at-nexts = at-found .before .before .before in
     let p = at-nexts .before .before .before .before .pre in
-    let y = surveyed (p .0) (p .1) (at-nexts .next-hops .ensures) (at-most .spoken-in .ensures) (at-found .bad-offset .ensures) in
+    let y = surveyed (p .0) (p .1) (at-nexts .next-hops .ensures) (at-found .bad-offset .ensures) in
     run-length-bad y _ _ (p .2) (at-valid .if1 .left) (odd-bad _ (c .before .if2 .taken)) _ (c .refusal-of2 .ensures)
 
 refusal-of-requires-3 : tie.Need-refusal-of-requires-3
@@ -59,10 +51,9 @@ returns-3 : tie.Need-returns-3
 returns-3 c =
     let at-valid = c .before .before .before in
     let at-found = at-valid .before in
-    let at-most = at-found .before .before .before .before in
-    let at-nexts = at-most .before in
+    let at-nexts = at-found .before .before .before in
     let p = at-nexts .before .before .before .before .pre in
-    let y = surveyed (p .0) (p .1) (at-nexts .next-hops .ensures) (at-most .spoken-in .ensures) (at-found .bad-offset .ensures) in
+    let y = surveyed (p .0) (p .1) (at-nexts .next-hops .ensures) (at-found .bad-offset .ensures) in
     run-length-bad y _ _ (p .2) (at-valid .if1 .left) (long-bad _ (c .before .if3 .taken)) _ (c .refusal-of3 .ensures)
 
 bad-pair-requires : tie.Need-bad-pair-requires
@@ -81,10 +72,9 @@ returns-4 c =
     let at-even = at-short .before in
     let at-valid = at-even .before in
     let at-found = at-valid .before in
-    let at-most = at-found .before .before .before .before in
-    let at-nexts = at-most .before in
+    let at-nexts = at-found .before .before .before in
     let p = at-nexts .before .before .before .before .pre in
-    let y = surveyed (p .0) (p .1) (at-nexts .next-hops .ensures) (at-most .spoken-in .ensures) (at-found .bad-offset .ensures) in
+    let y = surveyed (p .0) (p .1) (at-nexts .next-hops .ensures) (at-found .bad-offset .ensures) in
     run-pair-bad y _ _ (p .2) (at-valid .if1 .left) (at-even .if2 .left) (at-short .if3 .left) _ (at-bad .bad-pair .ensures) (c .before .if4 .taken) _ (c .refusal-of4 .ensures)
 
 work-requires : tie.Need-work-requires
@@ -95,10 +85,9 @@ work-requires c κs =
     let at-even = at-short .before in
     let at-valid = at-even .before in
     let at-found = at-valid .before in
-    let at-most = at-found .before .before .before .before in
-    let at-nexts = at-most .before in
+    let at-nexts = at-found .before .before .before in
     let p = at-nexts .before .before .before .before .pre in
-    let y = surveyed (p .0) (p .1) (at-nexts .next-hops .ensures) (at-most .spoken-in .ensures) (at-found .bad-offset .ensures) in
+    let y = surveyed (p .0) (p .1) (at-nexts .next-hops .ensures) (at-found .bad-offset .ensures) in
     (run-ready y _ _ (p .2) (at-valid .if1 .left) (at-even .if2 .left) (at-short .if3 .left) _ (at-bad .bad-pair .ensures) (at-all .if4 .left), survey-rows y)
 
 same-length-5 : tie.Need-same-length-5
@@ -116,10 +105,9 @@ returns-5 c =
     let at-even = at-short .before in
     let at-valid = at-even .before in
     let at-found = at-valid .before in
-    let at-most = at-found .before .before .before .before in
-    let at-nexts = at-most .before in
+    let at-nexts = at-found .before .before .before in
     let p = at-nexts .before .before .before .before .pre in
-    let y = surveyed (p .0) (p .1) (at-nexts .next-hops .ensures) (at-most .spoken-in .ensures) (at-found .bad-offset .ensures) in
+    let y = surveyed (p .0) (p .1) (at-nexts .next-hops .ensures) (at-found .bad-offset .ensures) in
     run-worked y _ _ (p .2) (at-valid .if1 .left) (at-even .if2 .left) (at-short .if3 .left) _ (at-bad .bad-pair .ensures) (at-all .if4 .left) _ _ _ (at-work .work .ensures)
 
 pub run-accepted-spec : {M : Type 1} → statement M
@@ -127,8 +115,6 @@ run-accepted-spec =
     tie.close
     (tie.spec
     next-hops-requires
-    spoken-in-requires
-    slice-aggregate-bad-offset
     bad-offset-requires
     refusal-of-requires
     same-length

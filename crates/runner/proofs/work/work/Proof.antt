@@ -91,8 +91,8 @@ mul-hear c =
     let w = going-worked (i .1) (i .2) (omega arith) in
     omega (arith, w .listener)
 
-element-copy-out-hear : tie.Need-element-copy-out-hear Inv-loop μ-loop
-element-copy-out-hear c =
+index-1-hear : tie.Need-index-1-hear Inv-loop μ-loop
+index-1-hear c =
     let i = c .before .before .before .loop .inv in
     let w = going-worked (i .1) (i .2) (omega arith) in
     omega (arith, w .listener)
@@ -104,8 +104,8 @@ mul-hear-2 c =
     let w = going-worked (i .1) (i .2) (omega arith) in
     omega (arith, w .listener)
 
-array-copy-out-hear : tie.Need-array-copy-out-hear Inv-loop μ-loop
-array-copy-out-hear c =
+index-1-hear-2 : tie.Need-index-1-hear-2 Inv-loop μ-loop
+index-1-hear-2 c =
     let at-pair = c .before in
     let i = at-pair .before .before .before .loop .inv in
     let w = going-worked (i .1) (i .2) (omega arith) in
@@ -171,8 +171,8 @@ mul-slot-to c =
     let w = going-worked (i .1) (i .2) (omega arith) in
     omega (arith, w .listener)
 
-element-copy-out-slot-to : tie.Need-element-copy-out-slot-to Inv-loop μ-loop
-element-copy-out-slot-to c =
+index-1-slot-to : tie.Need-index-1-slot-to Inv-loop μ-loop
+index-1-slot-to c =
     let at-add = c .before .before .before in
     let at-hear = at-add .before .before .before .before .before in
     let at-pair = at-hear .before .before .before .before in
@@ -249,9 +249,9 @@ work-spec =
     cast-said
     array-read-said
     mul-hear
-    element-copy-out-hear
+    index-1-hear
     mul-hear-2
-    array-copy-out-hear
+    index-1-hear-2
     hear-requires
     array-write-choices
     movement-requires
@@ -261,7 +261,7 @@ work-spec =
     slice-aggregate-activate
     mul-activate
     mul-slot-to
-    element-copy-out-slot-to
+    index-1-slot-to
     slot-to-requires
     add-activate
     activate-requires
