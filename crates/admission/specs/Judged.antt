@@ -1,27 +1,27 @@
 -- What is judged before the first store, by where the slots lead.
-use Prim.Native.Nat.{ℕ, _/_}
-use mathlib.Core.Bool.{Bool, true, false, not}
+use Prim.Native.Nat.{ℕ, _-_, _/_, _%_}
+use mathlib.Core.Bool.{Bool, true, false, not, _&&_, _||_}
 use mathlib.Core.List.{List, []}
 use mathlib.Core.Option.{Option, none, some}
 use lib.ListN.{length, getD}
-use lib.Dec.{eqb}
+use lib.Dec.{eqb, ltb}
 use Rattle.lists.specs.Search.{firstIn}
-use Rattle.rules.specs.Machine.{Pair, badAt}
+use Rattle.rules.specs.Machine.{Pair}
 use Rattle.rules.specs.Run.{pairsIn}
-use Rattle.pairs.specs.NextHops.{slotTo, hearsFrom, listensIn}
+use Rattle.pairs.specs.NextHops.{hearsFrom, listensIn}
 
 -- the place that was found, or another number where none was
 unfoldable pub placeOr : ℕ → Option ℕ → ℕ
 placeOr n none = n
 placeOr n (some k) = k
 
--- how many paths u can speak of: one for the destination, for every other those before its first empty slot
-unfoldable pub spokenIn : List (List ℕ) → ℕ → ℕ
-spokenIn nexts u = elim (eqb u 0) [ true ↦ 1 | false ↦ slotTo (getD nexts u []) 255 ]
+-- whether u can speak of the path with the byte b, from 1: the destination of one, every other vertex of those in its slots
+unfoldable pub speaksIn : List (List ℕ) → ℕ → ℕ → Bool
+speaksIn nexts u b = elim (eqb u 0) [ true ↦ eqb b 1 | false ↦ not (ltb 16 b) && not (eqb (getD (getD nexts u []) (b - 1) 0) 255) ]
 
--- a bad byte
+-- a bad byte: one where nobody listens, or of a path that the speaker has not
 unfoldable pub badHeard : List (List ℕ) → ℕ → ℕ → Bool
-badHeard nexts = badAt (listensIn nexts) (spokenIn nexts)
+badHeard nexts k b = elim (eqb b 0) [ true ↦ false | false ↦ not (listensIn nexts k) || not (speaksIn nexts (k % 64) b) ]
 
 -- the lowest bad offset, the state's length where none is
 unfoldable pub badOffset : List (List ℕ) → List ℕ → ℕ

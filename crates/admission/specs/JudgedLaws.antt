@@ -4,14 +4,14 @@ use mathlib.Core.Logic.{_≢_}
 use mathlib.Core.Bool.{Bool, true, false, not}
 use mathlib.Core.List.{List, []}
 use mathlib.Core.Option.{Option, none, some}
-use Prim.Native.Nat.{ℕ, _+_, _*_, _/_, _%_, _<_, _≤_}
+use Prim.Native.Nat.{ℕ, _-_, _+_, _*_, _/_, _%_, _<_, _≤_}
 use native.Mathlib.Omega.{arith}
 use lib.ListN.{length, getD, drop}
-use lib.Dec.{ltb}
-use borrow.Author.Tests.{eq-eqb, ne-eqb}
+use lib.Dec.{eqb, ltb}
+use borrow.Author.Tests.{lt-ltb, le-ltb, eq-eqb, ne-eqb}
 use Rattle.lists.specs.Search.{firstIn}
 use Rattle.lists.specs.Fill.{tabulate}
-use Rattle.lists.specs.Tests.{by-equal, by-option}
+use Rattle.lists.specs.Tests.{by-equal, by-less, by-option}
 use Rattle.lists.specs.ListLaws.{first-in-under, first-in-ext, seek-hit, seek-next, seek-end}
 use Rattle.rules.specs.Table.{Path, listens, listensAt}
 use Rattle.rules.specs.Machine.{Pair, speaks, badAt, badByte, heardFault}
@@ -20,9 +20,9 @@ use Rattle.rules.specs.Answers.{firstBadPair}
 use Rattle.laws.specs.Shape.{Shaped}
 use Rattle.laws.specs.MachineLaws.{speaks-destination, speaks-other, bad-same}
 use Rattle.laws.specs.ScheduleLaws.{pairs-length, pairs-at}
-use Rattle.pairs.specs.NextHops.{nextRow, slotTo, hearsFrom, listensIn}
-use Rattle.pairs.specs.NextHopLaws.{hears-other, hears-told, all-listens, count-told}
-use Rattle.admission.specs.Judged.{placeOr, spokenIn, badHeard, badOffset, unheard, badPair}
+use Rattle.pairs.specs.NextHops.{nextRow, hearsFrom, listensIn}
+use Rattle.pairs.specs.NextHopLaws.{hears-other, hears-told, all-listens, row-small, row-empty}
+use Rattle.admission.specs.Judged.{placeOr, speaksIn, badHeard, badOffset, unheard, badPair}
 
 -- a place that was found, and none
 
@@ -46,28 +46,33 @@ module _ {A : Type 0} (test : ℕ → A → Bool) (l : List A) (n r : ℕ) (long
       by-option (firstIn test 0 l) (λ q. absurd (f (found ∙ place-none n (firstIn test 0 l) q)))
       (λ k q. q ∙ ap some (sym (found ∙ place-some n (firstIn test 0 l) k q)))
 
--- how many paths a vertex can speak of
+-- whether a vertex can speak of a byte
 
-pub spoken-destination : (nexts : List (List ℕ)) (u : ℕ) → u ≡ 0 → 1 ≡ spokenIn nexts u
-unfolding spokenIn
-spoken-destination nexts u e = rw (eq-eqb u 0 e, spokenIn)
+module _ (nexts : List (List ℕ)) (u b : ℕ) where
+  pub speaks-destination-in : u ≡ 0 → eqb b 1 ≡ speaksIn nexts u b
+  unfolding speaksIn
+  speaks-destination-in e = rw (eq-eqb u 0 e, speaksIn)
 
-pub spoken-other : (nexts : List (List ℕ)) (u n : ℕ) → u ≢ 0 → n ≡ slotTo (getD nexts u []) 255 → n ≡ spokenIn nexts u
-unfolding spokenIn
-spoken-other nexts u n f e = e ∙ rw (ne-eqb u 0 f, spokenIn)
+  pub speaks-past : u ≢ 0 → 16 < b → false ≡ speaksIn nexts u b
+  unfolding speaksIn
+  speaks-past f h = rw (ne-eqb u 0 f, speaksIn, lt-ltb 16 b h)
+
+  pub speaks-slot : u ≢ 0 → b ≤ 16 → not (eqb (getD (getD nexts u []) (b - 1) 0) 255) ≡ speaksIn nexts u b
+  unfolding speaksIn
+  speaks-slot f h = rw (ne-eqb u 0 f, speaksIn, le-ltb 16 b h)
 
 -- one byte
 
 module _ (nexts : List (List ℕ)) (k b : ℕ) where
   -- 0 is never bad
   pub byte-silent : b ≡ 0 → false ≡ badHeard nexts k b
-  unfolding badHeard badAt
-  byte-silent e = rw (e, badHeard, badAt)
+  unfolding badHeard
+  byte-silent e = rw (e, badHeard)
 
   -- any other byte is bad where nobody listens
   byte-deaf : b ≢ 0 → listensIn nexts k ≡ false → true ≡ badHeard nexts k b
-  unfolding badHeard badAt
-  byte-deaf f e = rw (ne-eqb b 0 f, badHeard, badAt, e)
+  unfolding badHeard
+  byte-deaf f e = rw (ne-eqb b 0 f, badHeard, e)
 
   pub byte-past : b ≢ 0 → 4096 ≤ k → true ≡ badHeard nexts k b
   unfolding listensIn
@@ -77,10 +82,10 @@ module _ (nexts : List (List ℕ)) (k b : ℕ) where
   unfolding listensIn
   byte-unheard f e = byte-deaf f e
 
-  -- and elsewhere where the speaker has fewer paths
-  pub byte-heard : (n : ℕ) → b ≢ 0 → hearsFrom nexts (k / 64) (k % 64) ≡ true → n ≡ spokenIn nexts (k % 64) → ltb n b ≡ badHeard nexts k b
-  unfolding badHeard badAt listensIn
-  byte-heard n f e q = rw (ne-eqb b 0 f, badHeard, badAt, e, q)
+  -- and elsewhere where the speaker has not such a path
+  pub byte-heard : (s : Bool) → b ≢ 0 → hearsFrom nexts (k / 64) (k % 64) ≡ true → s ≡ speaksIn nexts (k % 64) b → not s ≡ badHeard nexts k b
+  unfolding badHeard listensIn
+  byte-heard s f e q = rw (ne-eqb b 0 f, badHeard, e, q)
 
 -- the search for the lowest bad offset, which has come to k
 module _ (nexts : List (List ℕ)) (heard : List ℕ) (k : ℕ)
@@ -125,21 +130,46 @@ module _ (nexts : List (List ℕ)) (s : List ℕ) (i : ℕ)
 -- the answers over the slots of a table are the rules'
 module _ (paths : ℕ → List Path) (present : ℕ → Bool) (shaped : Shaped paths present) (nexts : List (List ℕ))
     (leads : nexts ≡ tabulate (λ v. nextRow (paths v)) 64) where
-  -- who can speak of how many paths
-  spoken-told : (u : ℕ) → u < 64 → spokenIn nexts u ≡ length (speaks paths u)
-  spoken-told u h =
+  -- who can speak of a byte speaks of as many paths
+  spoken-told : (u b : ℕ) → u < 64 → b ≢ 0 → not (speaksIn nexts u b) ≡ ltb (length (speaks paths u)) b
+  spoken-told u b h f =
       by-equal u 0
-      (λ z. sym (spoken-destination nexts u z) ∙ sym (ap length (ap (speaks paths) z ∙ speaks-destination paths)))
-      (λ z. sym (spoken-other nexts u _ z refl) ∙ count-told paths present shaped nexts leads u h ∙ sym (ap length (speaks-other paths u z)))
+      (λ z. let one : length (speaks paths u) ≡ 1 = ap length (ap (speaks paths) z ∙ speaks-destination paths) in
+      ap not (sym (speaks-destination-in nexts u b z))
+      ∙ by-equal b 1
+      (λ q. rw (eq-eqb b 1 q) (sym (le-ltb (length (speaks paths u)) b (omega arith))))
+      (λ q. rw (ne-eqb b 1 q) (sym (lt-ltb (length (speaks paths u)) b (omega arith)))))
+      (λ z. let same : length (speaks paths u) ≡ length (paths u) = ap length (speaks-other paths u z) in
+      let few = shaped .few u in
+      by-less 16 b
+      (λ l. ap not (sym (speaks-past nexts u b z l)) ∙ sym (lt-ltb (length (speaks paths u)) b (omega arith)))
+      (λ l. ap not (sym (speaks-slot nexts u b z l))
+      ∙ by-less (b - 1) (length (paths u))
+      (λ m. let n : getD (getD nexts u []) (b - 1) 0 ≢ 255 = λ e. omega (arith, slot-told u (b - 1) h m) in
+      rw (ne-eqb _ 255 n) (sym (le-ltb (length (speaks paths u)) b (omega arith))))
+      (λ m. rw (eq-eqb _ 255 (slot-empty u (b - 1) h m (omega arith))) (sym (lt-ltb (length (speaks paths u)) b (omega arith))))))
+    where
+      slot-told : (u k : ℕ) → u < 64 → k < length (paths u) → getD (getD nexts u []) k 0 < 64
+      slot-told u k h m = row-small paths present shaped nexts leads u k h m
+
+      slot-empty : (u k : ℕ) → u < 64 → length (paths u) ≤ k → k < 16 → getD (getD nexts u []) k 0 ≡ 255
+      slot-empty u k h m l = row-empty paths present shaped nexts leads u k h m l
 
   module _ (heard : List ℕ) (r : ℕ) (long : length heard ≡ 4096) (found : r ≡ badOffset nexts heard) where
     same-fault : firstIn (badHeard nexts) 0 heard ≡ heardFault paths heard
-    unfolding heardFault badByte badHeard
+    unfolding heardFault badByte badAt badHeard
     same-fault =
         first-in-ext (badHeard nexts) (badByte paths) heard 0 0
         (λ k h. let z : 0 + k ≡ k = omega arith in
-        rw z (bad-same (listensIn nexts) (listensAt paths) (spokenIn nexts) (λ u. length (speaks paths u)) k (getD heard k 0)
-        (all-listens paths present shaped nexts leads k) (spoken-told (k % 64) (omega arith))))
+        rw z (by-equal (getD heard k 0) 0
+        (λ e. rw (e, badHeard, badAt))
+        (λ e. rw (
+          ne-eqb (getD heard k 0) 0 e,
+          badHeard,
+          badAt,
+          all-listens paths present shaped nexts leads k,
+          spoken-told (k % 64) (getD heard k 0) (omega arith) e,
+        ))))
 
     -- no bad offset: the state is valid
     pub fault-none : r ≡ 4096 → heardFault paths heard ≡ none

@@ -1,24 +1,27 @@
 // What is judged before the first store, by where the slots lead.
 ghost use mathlib.Core.Path.{_≡_};
-ghost use Prim.Native.Nat.{_<_};
-ghost use Rattle.admission.specs.Judged.{spokenIn, badHeard, badOffset, badPair};
+ghost use Prim.Native.Nat.{_<_, _≤_};
+ghost use Rattle.admission.specs.Judged.{speaksIn, badHeard, badOffset, badPair};
 use pairs::NOBODY;
 use pairs::is_listening;
-use pairs::slot_to;
+use table_facts::SLOTS;
 use table_facts::VERTICES;
 
 // The length of a heard state: a byte for each pair.
 pub const HEARD_LENGTH: usize = 4096;
 
-// How many paths u can speak of: one for the destination, for every other those before its first empty slot.
-fn spoken_by(nexts: &[[u8; 16]; 64], u: usize) -> usize
-    requires { ⌜ u < 64 ⌝ }
-    ensures { λ r. ⌜ r ≡ spokenIn (now (nexts .entry)) u ⌝ }
+// Whether u can speak of the path with the byte b: the destination of one, every other vertex of those in its slots.
+fn can_speak(nexts: &[[u8; 16]; 64], u: usize, b: usize) -> bool
+    requires { ⌜ (u < 64) × (1 ≤ b) ⌝ }
+    ensures { λ r. ⌜ r ≡ speaksIn (now (nexts .entry)) u b ⌝ }
 {
     if u == 0 {
-        return 1;
+        return b == 1;
     }
-    slot_to(&nexts[u], NOBODY)
+    if SLOTS < b {
+        return false;
+    }
+    nexts[u][b - 1] != NOBODY
 }
 
 // Whether the byte b at the offset k is bad; most bytes of a state are 0, so that is asked first.
@@ -34,7 +37,7 @@ fn is_bad(nexts: &[[u8; 16]; 64], k: usize, b: u8) -> bool
     if !is_listening(nexts, (k / VERTICES) as u8, (k % VERTICES) as u8) {
         return true;
     }
-    spoken_by(nexts, k % VERTICES) < b as usize
+    !can_speak(nexts, k % VERTICES, b as usize)
 }
 
 // The lowest bad offset, the state's length where none is.

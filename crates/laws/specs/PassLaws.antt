@@ -1,22 +1,20 @@
--- Laws of one pass through a table: what the slots, the marks, the counts and the greatest hops are after one record more.
+-- Laws of one pass through a table: what the slots, the marks and the greatest hops are after one record more.
 use mathlib.Core.Path.{_≡_, refl, sym, ap, _∙_}
 use mathlib.Core.Bool.{Bool, true, false, _||_, or-assoc}
 use mathlib.Core.List.{List, [], _∷_, _++_}
 use Prim.Native.Nat.{ℕ, _+_, _<_, _≤_, min, max}
 use native.Mathlib.Omega.{arith}
 use native.Mathlib.Numerals.{add-one}
-use lib.ListN.{length, getD, set, replicate, length-append, length-map}
+use lib.ListN.{length, getD, set, replicate, length-append}
 use lib.Dec.{eqb}
 use borrow.Author.Tests.{eq-eqb, ne-eqb}
 use Rattle.lists.specs.Search.{anyBelow, elem, maxBelow, thoseBelow}
 use Rattle.lists.specs.Fill.{padded, tabulate}
 use Rattle.lists.specs.Renew.{marked}
-use Rattle.lists.specs.SearchLaws.{max-suc, any-below-suc, those-in, those-out, those-count, count-most}
+use Rattle.lists.specs.SearchLaws.{max-suc, any-below-suc, those-in, those-out}
 use Rattle.lists.specs.FillLaws.{tabulate-ext, tabulate-set, tabulate-at, mark-list, padded-more, padded-full}
 use Rattle.lists.specs.Tests.{by-equal}
-use Rattle.rules.specs.Table.{records, pathAt, hopsAt, ownerAt, owned, pathsBelow, pathsOf, present, slotsOf}
-use Rattle.rules.specs.Machine.{speaks}
-use Rattle.laws.specs.MachineLaws.{speaks-destination, speaks-other}
+use Rattle.rules.specs.Table.{records, pathAt, hopsAt, ownerAt, owned, present, slotsOf}
 
 module _ (t : List ℕ) (i : ℕ) where
   -- the greatest hops
@@ -126,51 +124,6 @@ module _ {t : List ℕ} {i : ℕ} {slots : List (List ℕ)} {used : List ℕ} (s
 pub slots-none : (t : List ℕ) → Slotted t 0 (replicate 64 (replicate 16 65535)) (replicate 64 0)
 unfolding slotsOf usedOf owned thoseBelow tabulate padded
 slots-none t = record { filled = refl; counted = refl }
-
--- how many records each vertex has
-unfoldable pub ownedCounts : List ℕ → ℕ → List ℕ
-ownedCounts t n = tabulate (λ v. length (owned t n v)) 64
-
-module _ (t : List ℕ) (i : ℕ) (counts : List ℕ) (come : counts ≡ ownedCounts t i) where
-  -- a record of an owner that is no vertex is not counted
-  pub counts-skip : 64 ≤ ownerAt t i → counts ≡ ownedCounts t (i + 1)
-  unfolding ownedCounts
-  counts-skip h = come ∙ tabulate-ext _ _ 64 (λ v l. ap length (sym (owned-out t i v (omega arith))))
-
-  module _ (v : ℕ) (mine : v ≡ ownerAt t i) (small : v < 64) where
-    counts-at : getD counts v 0 ≡ length (owned t i v)
-    unfolding ownedCounts
-    counts-at = rw come (tabulate-at (λ w. length (owned t i w)) 64 v 0 small)
-
-    -- a vertex has no more records than were seen
-    pub counts-small : getD counts v 0 ≤ i
-    unfolding owned
-    counts-small =
-        omega (arith, counts-at, those-count (λ j. eqb (ownerAt t j) v) i, count-most (λ j. eqb (ownerAt t j) v) i)
-
-    -- any other record is one more of its owner
-    pub counts-more : set counts v (getD counts v 0 + 1) ≡ ownedCounts t (i + 1)
-    unfolding ownedCounts
-    counts-more =
-        rw (counts-at, come) (tabulate-set (λ w. length (owned t i w)) (λ w. length (owned t (i + 1) w)) 64 v
-        (length (owned t i v) + 1)
-        (λ l. ap length (owned-in t i v (sym mine)) ∙ length-append (owned t i v) (i ∷ []))
-        (λ w l f. ap length (sym (owned-out t i w (λ e. f (sym e ∙ sym mine))))))
-
-pub counts-none : (t : List ℕ) → replicate 64 0 ≡ ownedCounts t 0
-unfolding ownedCounts owned thoseBelow tabulate
-counts-none t = refl
-
--- the destination speaks of one path, whatever it owns
-pub counts-all : (t : List ℕ) (n : ℕ) (counts : List ℕ)
-    → n ≡ records t
-    → counts ≡ ownedCounts t n
-    → set counts 0 1 ≡ tabulate (λ u. length (speaks (pathsOf t) u)) 64
-unfolding ownedCounts pathsOf pathsBelow
-counts-all t n counts e f =
-    rw (f, e) (tabulate-set (λ v. length (owned t (records t) v)) (λ u. length (speaks (pathsOf t) u)) 64 0 1
-    (λ l. ap length (speaks-destination (pathsOf t)))
-    (λ v l h. sym (ap length (speaks-other (pathsOf t) v h) ∙ length-map (owned t (records t) v) (pathAt t))))
 
 -- what was gathered from all the records
 

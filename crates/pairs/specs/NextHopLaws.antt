@@ -238,9 +238,15 @@ module _ (paths : ℕ → List Path) (present : ℕ → Bool) (shaped : Shaped p
   pub row-told : (v : ℕ) → v < 64 → getD nexts v [] ≡ nextRow (paths v)
   row-told v h = ap (λ (l : List (List ℕ)). getD l v []) found ∙ tabulate-at (λ w. nextRow (paths w)) 64 v [] h
 
-  -- the first empty slot of a vertex tells how many paths it has
-  pub count-told : (v : ℕ) → v < 64 → slotTo (getD nexts v []) 255 ≡ length (paths v)
-  count-told v h = ap (λ (row : List ℕ). slotTo row 255) (row-told v h) ∙ own-count paths present shaped v
+  -- a slot with a path leads to a vertex, and every other slot is empty
+  pub row-small : (v k : ℕ) → v < 64 → k < length (paths v) → getD (getD nexts v []) k 0 < 64
+  unfolding nextHop
+  row-small v k h l =
+      let p = shaped .permitted v k l in
+      omega (arith, ap (λ (row : List ℕ). getD row k 0) (row-told v h) ∙ next-at (paths v) (shaped .few v) k l, p .vertices 1 (p .long))
+
+  pub row-empty : (v k : ℕ) → v < 64 → length (paths v) ≤ k → k < 16 → getD (getD nexts v []) k 0 ≡ 255
+  row-empty v k h l m = ap (λ (row : List ℕ). getD row k 0) (row-told v h) ∙ next-past (paths v) (shaped .few v) k l m
 
   -- what is no vertex does not listen and is not listened to
   silent : (v u : ℕ) → (listens paths v u ≡ true → ⊥) → listens paths v u ≡ false

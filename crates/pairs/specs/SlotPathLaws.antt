@@ -20,6 +20,7 @@ use Rattle.rules.specs.Refusals.{refusal}
 use Rattle.laws.specs.Shape.{Shaped}
 use Rattle.laws.specs.ShapeLaws.{shaped}
 use Rattle.laws.specs.Blocks.{few-records, owned-few, owned-below}
+use Rattle.pairs.specs.NextHops.{nextRow}
 use Rattle.pairs.specs.SlotPaths.{filled, slotPaths, heldIn, slotted, FilledTo}
 
 -- the records of a row
@@ -149,6 +150,13 @@ module _ (t : List ℕ) (slots : List (List ℕ)) (v : ℕ) where
 pub slotted-told : (t : List ℕ) (slots : List (List ℕ)) → slots ≡ slotsOf t (min (records t) 1008) → heldIn t slots ≡ slotted t
 unfolding slotted
 slotted-told t slots e = ap (heldIn t) e
+
+pub rows-slotted : (t : List ℕ) (slots : List (List ℕ)) (nexts : List (List ℕ))
+    → slots ≡ slotsOf t (min (records t) 1008)
+    → nexts ≡ tabulate (λ v. nextRow (heldIn t slots v)) 64
+    → nexts ≡ tabulate (λ v. nextRow (slotted t v)) 64
+rows-slotted t slots nexts s e =
+    e ∙ ap (λ (held : ℕ → List Path). tabulate (λ v. nextRow (held v)) 64) (slotted-told t slots s)
 
 -- the slots of an accepted table
 

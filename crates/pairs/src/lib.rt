@@ -33,8 +33,8 @@ fn next_row(table: &[u8], row: [u16; 16]) -> [u8; 16]
 }
 
 // The same for all vertices' slots.
-fn next_rows(table: &[u8], slots: [[u16; 16]; 64]) -> [[u8; 16]; 64]
-    ensures { λ r. ⌜ r ≡ tabulate (λ v. nextRow (heldIn (now (table .entry)) slots v)) 64 ⌝ }
+pub fn next_rows(table: &[u8], slots: &[[u16; 16]; 64]) -> [[u8; 16]; 64]
+    ensures { λ r. ⌜ r ≡ tabulate (λ v. nextRow (heldIn (now (table .entry)) (now (slots .entry)) v)) 64 ⌝ }
 {
     let mut nexts = [[NOBODY; 16]; 64];
     let mut v = 0;
@@ -49,7 +49,8 @@ fn next_rows(table: &[u8], slots: [[u16; 16]; 64]) -> [[u8; 16]; 64]
 pub fn next_hops(table: &[u8]) -> [[u8; 16]; 64]
     ensures { λ r. ⌜ r ≡ tabulate (λ v. nextRow (slotted (now (table .entry)) v)) 64 ⌝ }
 {
-    next_rows(table, slots_of(table))
+    let slots = slots_of(table);
+    next_rows(table, &slots)
 }
 
 // The first slot that leads to u, 16 where none does.

@@ -1,18 +1,22 @@
 -- What a step asks for: where all slots lead, and a pair that can be worked.
-use Prim.Native.Nat.{ℕ, _+_, _*_, _<_}
+use Prim.Native.Nat.{ℕ, _+_, _*_, _<_, min}
 use mathlib.Core.Path.{_≡_}
 use mathlib.Core.Logic.{_≢_}
 use mathlib.Core.List.{List}
 use mathlib.Core.Option.{none}
 use lib.ListN.{length, set}
 use Rattle.lists.specs.Fill.{tabulate}
-use Rattle.rules.specs.Table.{Path}
+use Rattle.rules.specs.Table.{Path, records, slotsOf}
 use Rattle.rules.specs.Refusals.{refusal}
 use Rattle.pairs.specs.SlotPaths.{slotted}
 use Rattle.pairs.specs.NextHops.{nextRow}
 use Rattle.rests.specs.Rests.{askedRow}
 use Rattle.choice.specs.Choosing.{choiceByte}
 use Rattle.admission.specs.Judged.{badOffset}
+
+-- the slots of a table
+abbrev pub Held : List ℕ → List (List ℕ) → Type 0
+Held t slots = slots ≡ slotsOf t (min (records t) 1008)
 
 -- where each vertex's slots lead, and what has to be heard for each
 abbrev pub Rows : (ℕ → List Path) → List (List ℕ) → Type 0

@@ -5,14 +5,14 @@ ghost use lib.ListN.{length, set};
 ghost use Rattle.rules.specs.Table.{pathsOf};
 ghost use Rattle.rules.specs.Refusals.{refusal};
 ghost use Rattle.rules.specs.Machine as rules;
-ghost use Rattle.stepper.specs.Working.{Rows, Workable, Heard};
+ghost use Rattle.stepper.specs.Working.{Held, Rows, Workable, Heard};
 ghost use Rattle.stepper.specs.Stepped.{Stepped};
 use admission::HEARD_LENGTH;
 use admission::bad_offset;
 use answer::StepAnswer;
 use choice::choice_byte;
 use pairs::is_listening;
-use pairs::next_hops;
+use pairs::next_rows;
 use reader::Reading;
 use reader::read;
 use rests::asked_row;
@@ -38,16 +38,20 @@ pub fn hear(nexts: &[u8; 16], asked: &[u8; 16], heard: &mut [u8], v: u8, u: u8, 
 }
 
 // Works a listening pair of an accepted table, and answers the listener's movement.
-fn work_pair(table: &[u8], nexts: &[[u8; 16]; 64], heard: &mut [u8], v: u8, u: u8) -> i32
-    requires { ⌜ Workable (now table) (now heard) v u × Rows (pathsOf (now table)) (now nexts) ⌝ }
+fn work_pair(
+    table: &[u8],
+    slots: &[[u16; 16]; 64],
+    nexts: &[[u8; 16]; 64],
+    heard: &mut [u8],
+    v: u8,
+    u: u8,
+) -> i32
+    requires { ⌜ Workable (now table) (now heard) v u × Held (now table) (now slots) × Rows (pathsOf (now table)) (now nexts) ⌝ }
     ensures movement { λ r. ⌜ r ≡ rules.movement (pathsOf (now (table .entry))) (now (heard .entry)) (record { listener = v; speaker = u }) ⌝ }
     ensures heard { λ r. ⌜ now (heard .exit) ≡ rules.step (pathsOf (now (table .entry))) (now (heard .entry)) (record { listener = v; speaker = u }) ⌝ }
 {
-    let slots = slots_of(table);
-    let mine = slots[v as usize];
-    let theirs = slots[u as usize];
-    let asked = asked_row(table, &slots, mine);
-    let asking = asked_row(table, &slots, theirs);
+    let asked = asked_row(table, slots, slots[v as usize]);
+    let asking = asked_row(table, slots, slots[u as usize]);
     let old = choice_byte(&nexts[v as usize], &asked, heard, v);
     let said = choice_byte(&nexts[u as usize], &asking, heard, u);
     let new = hear(&nexts[v as usize], &asked, heard, v, u, said);
@@ -59,7 +63,8 @@ fn step_accepted(table: &[u8], heard: &mut [u8], listener: u8, speaker: u8) -> S
     requires { ⌜ (refusal (now table) ≡ none) × (length (now heard) ≡ 4096) ⌝ }
     ensures { λ r. ⌜ Stepped (now (table .entry)) (now (heard .entry)) (record { listener = listener; speaker = speaker }) r (now (heard .exit)) ⌝ }
 {
-    let nexts = next_hops(table);
+    let slots = slots_of(table);
+    let nexts = next_rows(table, &slots);
     let at = bad_offset(&nexts, heard);
     if at != HEARD_LENGTH {
         return StepAnswer::Refused(12, at);
@@ -67,7 +72,7 @@ fn step_accepted(table: &[u8], heard: &mut [u8], listener: u8, speaker: u8) -> S
     if !is_listening(&nexts, listener, speaker) {
         return StepAnswer::Refused(14, 0);
     }
-    StepAnswer::Moved(work_pair(table, &nexts, heard, listener, speaker))
+    StepAnswer::Moved(work_pair(table, &slots, &nexts, heard, listener, speaker))
 }
 
 // Stores the speaker's present choice, and answers the listener's movement; a refused call changes no byte.

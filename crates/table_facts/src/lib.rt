@@ -1,11 +1,8 @@
-// What the check and the machine need of a table, for any bytes: the longest hops, who is present, who speaks of how
-// many paths, the slots.
+// What the check and the machine need of a table, for any bytes: the longest hops, who is present, the slots.
 ghost use mathlib.Core.Path.{_≡_};
 ghost use Prim.Native.Nat.{min};
-ghost use lib.ListN.{length};
 ghost use Rattle.lists.specs.Fill.{tabulate};
-ghost use Rattle.rules.specs.Table.{records, longest, present, pathsOf, slotsOf};
-ghost use Rattle.rules.specs.Machine.{speaks};
+ghost use Rattle.rules.specs.Table.{records, longest, present, slotsOf};
 use record_fields::RECORD_BYTES;
 use record_fields::hops_at;
 use record_fields::owner_at;
@@ -54,25 +51,6 @@ pub fn present_in(table: &[u8]) -> [bool; VERTICES]
         i += 1;
     }
     named
-}
-
-// How many paths each vertex can speak of: one for the destination, for every other its records.
-pub fn spoken_in(table: &[u8]) -> [usize; VERTICES]
-    ensures { λ r. ⌜ r ≡ tabulate (λ u. length (speaks (pathsOf (now (table .entry))) u)) 64 ⌝ }
-{
-    let count = table.len() / RECORD_BYTES;
-    let mut spoken = [0usize; VERTICES];
-    let mut i = 0;
-    while i < count {
-        let v = owner_at(table, i) as usize;
-        i += 1;
-        if VERTICES <= v {
-            continue;
-        }
-        spoken[v] = spoken[v] + 1;
-    }
-    spoken[0] = 1;
-    spoken
 }
 
 // The best-first slots of the first 1,008 records: 16 record numbers for each vertex, built in one pass.

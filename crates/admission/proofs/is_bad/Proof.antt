@@ -1,4 +1,4 @@
--- `admission::is_bad` meets its contract: 0 is never bad, any other byte where nobody listens or the speaker has fewer paths.
+-- `admission::is_bad` meets its contract: 0 is never bad, any other byte where nobody listens or the speaker has no such path.
 -- Assumes nothing.
 use mathlib.Core.Path.{sym, _∙_}
 use native.Mathlib.Omega.{arith}
@@ -28,14 +28,17 @@ returns-3 c =
     let at-ask = c .before in
     byte-unheard _ _ _ (at-ask .before .before .if1 .left) (sym (at-ask .is-listening .ensures) ∙ not-true _ (c .if3 .taken))
 
-spoken-by-requires : tie.Need-spoken-by-requires
-spoken-by-requires c κs = omega arith
+can-speak-requires : tie.Need-can-speak-requires
+can-speak-requires c κs =
+    let at-ask = c .before in
+    let other = at-ask .before .before .if1 .left in
+    (omega arith, omega (arith, other))
 
 returns-4 : tie.Need-returns-4
 returns-4 c =
     let at-ask = c .before .before in
     byte-heard _ _ _ _ (at-ask .before .before .if1 .left) (sym (at-ask .is-listening .ensures) ∙ not-false _ (c .before .if3 .left))
-    (c .spoken-by .ensures)
+    (c .can-speak .ensures)
 
 pub is-bad-spec : {M : Type 1} → statement M
 is-bad-spec =
@@ -47,5 +50,5 @@ is-bad-spec =
     cast-is-listening-2
     is-listening-requires
     returns-3
-    spoken-by-requires
+    can-speak-requires
     returns-4)

@@ -28,8 +28,8 @@ loop-holds c = (omega arith, length-replicate {A = List ℕ} 64 (replicate 16 25
 mul-next-row : tie.Need-mul-next-row Inv-loop μ-loop
 mul-next-row c = omega arith
 
-array-copy-out-next-row : tie.Need-array-copy-out-next-row Inv-loop μ-loop
-array-copy-out-next-row c = omega arith
+element-copy-out-next-row : tie.Need-element-copy-out-next-row Inv-loop μ-loop
+element-copy-out-next-row c = omega arith
 
 next-row-requires : tie.Need-next-row-requires Inv-loop μ-loop
 next-row-requires c κs = omega arith
@@ -67,7 +67,7 @@ next-rows-spec =
     μ-loop
     loop-holds
     mul-next-row
-    array-copy-out-next-row
+    element-copy-out-next-row
     next-row-requires
     mul-nexts
     array-set-from-nexts

@@ -2,12 +2,16 @@
 -- Assumes nothing.
 use borrow.Author.Needs.{needs}
 use borrow.Author.Tests.{not-true, not-false}
+use Rattle.pairs.specs.SlotPathLaws.{rows-slotted}
 use Rattle.stepper.specs.StepLaws.{surveyed, survey-rows, way-heard, way-pair, way-worked, way-moved}
 use Rattle.stepper.proofs.step_accepted.Statement.{statement}
 use Rattle.stepper.proofs.step_accepted.Tie as tie
 
-next-hops-requires : tie.Need-next-hops-requires
-next-hops-requires c κs = search needs
+slots-of-requires : tie.Need-slots-of-requires
+slots-of-requires c κs = search needs
+
+next-rows-requires : tie.Need-next-rows-requires
+next-rows-requires c κs = search needs
 
 bad-offset-requires : tie.Need-bad-offset-requires
 bad-offset-requires c κs = search needs
@@ -19,8 +23,10 @@ returns : tie.Need-returns
 returns c =
     let at-found = c .before in
     let at-nexts = at-found .before .before .before in
-    let p = at-nexts .before .before .before .pre in
-    let y = surveyed (p .0) (p .1) (at-nexts .next-hops .ensures) (at-found .bad-offset .ensures) in
+    let at-slots = at-nexts .before .before in
+    let p = at-slots .before .before .before .pre in
+    let leads = rows-slotted _ _ _ (at-slots .slots-of .ensures) (at-nexts .next-rows .ensures) in
+    let y = surveyed (p .0) (p .1) leads (at-found .bad-offset .ensures) in
     way-heard y _ (c .if1 .taken)
 
 is-listening-requires : tie.Need-is-listening-requires
@@ -34,21 +40,25 @@ returns-2 c =
     let at-asked = c .before in
     let at-found = at-asked .before .before .before in
     let at-nexts = at-found .before .before .before in
-    let p = at-nexts .before .before .before .pre in
-    let y = surveyed (p .0) (p .1) (at-nexts .next-hops .ensures) (at-found .bad-offset .ensures) in
+    let at-slots = at-nexts .before .before in
+    let p = at-slots .before .before .before .pre in
+    let leads = rows-slotted _ _ _ (at-slots .slots-of .ensures) (at-nexts .next-rows .ensures) in
+    let y = surveyed (p .0) (p .1) leads (at-found .bad-offset .ensures) in
     let valid = at-asked .before .before .if1 .left in
     way-pair y valid _ _ (at-asked .is-listening .ensures) (not-true _ (c .if2 .taken))
 
 work-pair-requires : tie.Need-work-pair-requires
 work-pair-requires c κs =
-    let at-else = c .before .before in
+    let at-else = c .before .before .before in
     let at-asked = at-else .before in
     let at-found = at-asked .before .before .before in
     let at-nexts = at-found .before .before .before in
-    let p = at-nexts .before .before .before .pre in
-    let y = surveyed (p .0) (p .1) (at-nexts .next-hops .ensures) (at-found .bad-offset .ensures) in
+    let at-slots = at-nexts .before .before in
+    let p = at-slots .before .before .before .pre in
+    let leads = rows-slotted _ _ _ (at-slots .slots-of .ensures) (at-nexts .next-rows .ensures) in
+    let y = surveyed (p .0) (p .1) leads (at-found .bad-offset .ensures) in
     let valid = at-asked .before .before .if1 .left in
-    (way-worked y valid _ _ (at-asked .is-listening .ensures) (not-false _ (at-else .if2 .left)), survey-rows y)
+    (way-worked y valid _ _ (at-asked .is-listening .ensures) (not-false _ (at-else .if2 .left)), at-slots .slots-of .ensures, survey-rows y)
 
 same-length-3 : tie.Need-same-length-3
 same-length-3 c = search needs
@@ -56,12 +66,14 @@ same-length-3 c = search needs
 returns-3 : tie.Need-returns-3
 returns-3 c =
     let at-work = c .before .before in
-    let at-else = at-work .before .before .before in
+    let at-else = at-work .before .before .before .before in
     let at-asked = at-else .before in
     let at-found = at-asked .before .before .before in
     let at-nexts = at-found .before .before .before in
-    let p = at-nexts .before .before .before .pre in
-    let y = surveyed (p .0) (p .1) (at-nexts .next-hops .ensures) (at-found .bad-offset .ensures) in
+    let at-slots = at-nexts .before .before in
+    let p = at-slots .before .before .before .pre in
+    let leads = rows-slotted _ _ _ (at-slots .slots-of .ensures) (at-nexts .next-rows .ensures) in
+    let y = surveyed (p .0) (p .1) leads (at-found .bad-offset .ensures) in
     let valid = at-asked .before .before .if1 .left in
     let e = at-work .work-pair .ensures in
     way-moved y valid _ _ (at-asked .is-listening .ensures) (not-false _ (at-else .if2 .left)) _ _ (e .0) (e .1)
@@ -70,7 +82,8 @@ pub step-accepted-spec : {M : Type 1} → statement M
 step-accepted-spec =
     tie.close
     (tie.spec
-    next-hops-requires
+    slots-of-requires
+    next-rows-requires
     bad-offset-requires
     same-length
     returns

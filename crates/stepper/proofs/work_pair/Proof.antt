@@ -5,23 +5,20 @@ use Rattle.stepper.specs.StepLaws.{pair-worked}
 use Rattle.stepper.proofs.work_pair.Statement.{statement}
 use Rattle.stepper.proofs.work_pair.Tie as tie
 
-slots-of-requires : tie.Need-slots-of-requires
-slots-of-requires c κs = omega arith
+mul-asked-row : tie.Need-mul-asked-row
+mul-asked-row c = omega arith
 
-mul-mine : tie.Need-mul-mine
-mul-mine c = omega arith
-
-array-copy-out-mine : tie.Need-array-copy-out-mine
-array-copy-out-mine c = omega arith
-
-mul-theirs : tie.Need-mul-theirs
-mul-theirs c = omega arith
-
-array-copy-out-theirs : tie.Need-array-copy-out-theirs
-array-copy-out-theirs c = omega arith
+element-copy-out-asked-row : tie.Need-element-copy-out-asked-row
+element-copy-out-asked-row c = omega arith
 
 asked-row-requires : tie.Need-asked-row-requires
 asked-row-requires c κs = omega arith
+
+mul-asked-row-2 : tie.Need-mul-asked-row-2
+mul-asked-row-2 c = omega arith
+
+element-copy-out-asked-row-2 : tie.Need-element-copy-out-asked-row-2
+element-copy-out-asked-row-2 c = omega arith
 
 asked-row-requires-2 : tie.Need-asked-row-requires-2
 asked-row-requires-2 c κs = omega arith
@@ -66,22 +63,20 @@ returns c =
     let at-old = at-said .before .before .before .before in
     let at-theirs = at-old .before .before .before .before in
     let at-mine = at-theirs .before .before in
-    let at-slots = at-mine .before .before .before .before in
-    let p = at-slots .before .before .before .pre in
+    let p = at-mine .before .before .before .before .pre in
     let h = at-hear .hear .ensures in
-    pair-worked (p .0) _ (p .1) _ (at-slots .slots-of .ensures) _ _ (at-mine .asked-row .ensures) (at-theirs .asked-row2 .ensures)
+    pair-worked (p .0) _ (p .2) _ (p .1) _ _ (at-mine .asked-row .ensures) (at-theirs .asked-row2 .ensures)
     _ _ _ _ (at-old .choice-byte .ensures) (at-said .choice-byte2 .ensures) (h .stored) (h .chosen) _ (c .movement .ensures)
 
 pub work-pair-spec : {M : Type 1} → statement M
 work-pair-spec =
     tie.close
     (tie.spec
-    slots-of-requires
-    mul-mine
-    array-copy-out-mine
-    mul-theirs
-    array-copy-out-theirs
+    mul-asked-row
+    element-copy-out-asked-row
     asked-row-requires
+    mul-asked-row-2
+    element-copy-out-asked-row-2
     asked-row-requires-2
     mul-choice-byte
     index-1-choice-byte
