@@ -6,8 +6,8 @@ use mathlib.Core.Option.{none}
 use Prim.Native.Nat.{ℕ, suc, _+_, _-_, _*_, _/_, _<_, _≤_}
 use native.Mathlib.Omega.{arith}
 use lib.ListN.{length, getD, set, take, replicate, length-set, length-replicate}
-use lib.Seq.{take-all, length-take-le, getD-set-same}
-use lib.IntN.{ℤ, pos, natAbs, _+ℤ_, _-ℤ_, +ℤ-idl}
+use lib.Seq.{take-all, length-take-le, getD-set-same, set-getD}
+use lib.IntN.{ℤ, pos, natAbs, _+ℤ_, _-ℤ_, +ℤ-idl, +ℤ-idr, +ℤ-invr}
 use lib.Dec.{eqb}
 use borrow.Author.Tests.{eq-eqb, ne-eqb}
 use Rattle.lists.specs.Search.{same, countBelow}
@@ -19,7 +19,7 @@ use Rattle.lists.specs.ListLaws.{same-refl, differ}
 use Rattle.lists.specs.NumberLaws.{difference-most}
 use Rattle.rules.specs.Table.{Path, pathsOf, present, listens, listensAt}
 use Rattle.rules.specs.Refusals.{refusal}
-use Rattle.rules.specs.Machine.{Pair, offsetOf, byteFor, pathFor, choice, choiceBytes, step, standing, movement}
+use Rattle.rules.specs.Machine.{Pair, offsetOf, byteFor, pathFor, choice, choiceBytes, step, standingOf, standing, movement}
 use Rattle.laws.specs.MachineLaws.{byte-tells, choice-spoken, choice-kept, step-length, standing-most, offset-listens}
 use Rattle.laws.specs.ShapeLaws.{shaped}
 use Rattle.rules.specs.Run.{Tally, pairsIn, isUp, isDown, more, listeningOffsets, closes, begun, activated, run}
@@ -33,7 +33,7 @@ use Rattle.rests.specs.Rests.{askedRow}
 use Rattle.choice.specs.Choosing.{choiceByte, choicesBy}
 use Rattle.choice.specs.ChoosingLaws.{choices-told}
 use Rattle.tally.specs.Counting.{moved, moreTo, lastOf, CountedStep}
-use Rattle.tally.specs.CountingLaws.{more-to}
+use Rattle.tally.specs.CountingLaws.{more-to, counted-same}
 use Rattle.tally.specs.Stamps.{Numbered, Stamped, Activated, openRound, leftAfter}
 use Rattle.tally.specs.StampLaws.{stamped-none, closed-on, stamped-on}
 use Rattle.stepper.specs.Working.{Rows, Asks, Workable}
@@ -290,6 +290,32 @@ module _ {t start schedule : List ℕ} {nexts asked : List (List ℕ)} {all : �
               moves = omega (arith, more-both (moved old new) ups downs, g .moves, ue, de);
               fewRounds = omega (arith, g .fewRounds, closing);
             }
+
+    -- where the byte that the speaker says is there already, only the rounds go on
+    module _ (said : getD heard (64 * v + u) 0 ≡ getD choices u 0)
+        {stampsNow : List ℕ} {closedNow missingNow slot : ℕ} (told : slot ≡ slotTo (getD nexts v []) u)
+        (a : Activated stamps (16 * v + slot) closed missing all stampsNow closedNow missingNow) where
+      abbrev stays : ℕ
+      stays = getD choices v 0
+
+      -- the listener's choice is that of its row
+      chosen-still : stays ≡ choiceByte (getD nexts v []) (getD asked v []) heard v
+      chosen-still =
+          going-byte v (going-worked .listener)
+          ∙ sym (byte-told t (f .accepted) nexts (f .rows) v (going-worked .listener) (getD asked v [])
+          (ap (λ (l : List (List ℕ)). getD l v []) (f .asks) ∙ tabulate-at (λ w. askedRow paths (paths w)) 64 v [] (going-worked .listener))
+          heard _ refl)
+
+      still : pos 0 ≡ moved stays stays
+      unfolding moved
+      still = sym (+ℤ-invr (pos (standingOf stays)))
+
+      pub going-same : Going t start schedule nexts (i + 1) heard choices sums ups downs last stampsNow closedNow missingNow
+      going-same =
+          rw (set-getD choices v 0) at
+          (going-more (sym (ap (set heard (64 * v + u)) (sym said) ∙ set-getD heard (64 * v + u) 0)) chosen-still still told a
+          (sym (ap (set sums v) (+ℤ-idr (getD sums v (pos 0))) ∙ set-getD sums v (pos 0)))
+          (counted-same stays stays (i + 1) ups downs last refl))
 
   -- after the last pair the run has ended
   module _ {i : ℕ} {heard choices : List ℕ} {sums : List ℤ} {ups downs last : ℕ} {stamps : List ℕ} {closed missing : ℕ}

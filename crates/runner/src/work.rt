@@ -36,7 +36,8 @@ fn answer_of(steps: usize, counts: Counts, rounds: Rounds) -> RunAnswer
     }
 }
 
-// Works a schedule that listens throughout, and answers what it counted; the sums begin at 0.
+// Works a schedule that listens throughout, and answers what it counted; the sums begin at 0. Where the byte that the
+// speaker says is there already, only the rounds go on.
 pub(crate) fn work(
     table: &[u8],
     nexts: &[[u8; 16]; 64],
@@ -67,18 +68,17 @@ pub(crate) fn work(
         let speaker = schedule[2 * i + 1];
         i += 1;
         let v = listener as usize;
-        let old = choices[v];
         let said = choices[speaker as usize];
+        let pair = 16 * v + slot_to(&nexts[v], speaker);
+        rounds = activate(&mut stamps, pair, rounds, all);
+        if heard[64 * v + speaker as usize] == said {
+            continue;
+        }
+        let old = choices[v];
         let new = hear(&nexts[v], &asked[v], heard, listener, speaker, said);
         choices[v] = new;
         add(sums, v, movement(old, new));
         counts = counted(counts, i as u32, old, new);
-        rounds = activate(
-            &mut stamps,
-            16 * v + slot_to(&nexts[v], speaker),
-            rounds,
-            all,
-        );
     }
     answer_of(i, counts, rounds)
 }

@@ -7,7 +7,7 @@ use lib.ListN.{length}
 use Rattle.pairs.specs.NextHopLaws.{slot-small}
 use Rattle.tally.specs.CountingLaws.{small-told, moved-small}
 use Rattle.runner.specs.Going.{Prepared, Going}
-use Rattle.runner.specs.GoingLaws.{going-start, going-worked, going-small, going-more, going-end}
+use Rattle.runner.specs.GoingLaws.{going-start, going-worked, going-small, going-more, going-same, going-end}
 use Rattle.runner.specs.RanLaws.{all-prepared}
 use Rattle.runner.proofs.work.work.Statement.{statement}
 use Rattle.runner.proofs.work.work.Tie as tie
@@ -67,12 +67,6 @@ cast-v c =
     let w = going-worked (i .1) (i .2) (omega arith) in
     omega (arith, w .listener)
 
-array-read-old : tie.Need-array-read-old Inv-loop μ-loop
-array-read-old c =
-    let i = c .before .before .before .loop .inv in
-    let w = going-worked (i .1) (i .2) (omega arith) in
-    omega (arith, w .listener)
-
 cast-said : tie.Need-cast-said Inv-loop μ-loop
 cast-said c =
     let i = c .before .before .before .loop .inv in
@@ -85,43 +79,127 @@ array-read-said c =
     let w = going-worked (i .1) (i .2) (omega arith) in
     omega (arith, w .speaker)
 
+mul-pair : tie.Need-mul-pair Inv-loop μ-loop
+mul-pair c =
+    let i = c .before .before .before .loop .inv in
+    let w = going-worked (i .1) (i .2) (omega arith) in
+    omega (arith, w .listener)
+
+mul-slot-to : tie.Need-mul-slot-to Inv-loop μ-loop
+mul-slot-to c =
+    let i = c .before .before .before .loop .inv in
+    let w = going-worked (i .1) (i .2) (omega arith) in
+    omega (arith, w .listener)
+
+index-1-slot-to : tie.Need-index-1-slot-to Inv-loop μ-loop
+index-1-slot-to c =
+    let i = c .before .before .before .loop .inv in
+    let w = going-worked (i .1) (i .2) (omega arith) in
+    omega (arith, w .listener)
+
+slot-to-requires : tie.Need-slot-to-requires Inv-loop μ-loop
+slot-to-requires c κs = omega arith
+
+add-pair : tie.Need-add-pair Inv-loop μ-loop
+add-pair c =
+    let at-pair = c .before .before in
+    let i = at-pair .before .before .before .loop .inv in
+    let w = going-worked (i .1) (i .2) (omega arith) in
+    omega (arith, w .listener, slot-small _ _ _ (c .slot-to .ensures))
+
+slice-aggregate-activate : tie.Need-slice-aggregate-activate Inv-loop μ-loop
+slice-aggregate-activate c =
+    let at-pair = c .before .before .before in
+    let i = at-pair .before .before .before .loop .inv in
+    omega (arith, i .2 .size)
+
+activate-requires : tie.Need-activate-requires Inv-loop μ-loop
+activate-requires c κs = omega arith
+
+mul-if1 : tie.Need-mul-if1 Inv-loop μ-loop
+mul-if1 c =
+    let at-pair = c .before .before .before .before .before in
+    let i = at-pair .before .before .before .loop .inv in
+    let w = going-worked (i .1) (i .2) (omega arith) in
+    omega (arith, w .listener)
+
+cast-if1 : tie.Need-cast-if1 Inv-loop μ-loop
+cast-if1 c =
+    let at-pair = c .before .before .before .before .before in
+    let i = at-pair .before .before .before .loop .inv in
+    let w = going-worked (i .1) (i .2) (omega arith) in
+    omega (arith, w .speaker)
+
+add-if1 : tie.Need-add-if1 Inv-loop μ-loop
+add-if1 c =
+    let at-pair = c .before .before .before .before .before in
+    let i = at-pair .before .before .before .loop .inv in
+    let w = going-worked (i .1) (i .2) (omega arith) in
+    omega (arith, w .listener, w .speaker)
+
+slice-read-if1 : tie.Need-slice-read-if1 Inv-loop μ-loop
+slice-read-if1 c =
+    let at-pair = c .before .before .before .before .before .before in
+    let i = at-pair .before .before .before .loop .inv in
+    let w = going-worked (i .1) (i .2) (omega arith) in
+    omega (arith, w .listener, w .speaker, i .2 .long)
+
+loop-less : tie.Need-loop-less Inv-loop μ-loop
+loop-less c = omega arith
+
+loop-again : tie.Need-loop-again Inv-loop μ-loop
+loop-again c =
+    let at-activate = c .before .before .before in
+    let at-slot = at-activate .before .before in
+    let at-pair = at-slot .before .before in
+    let i = at-pair .before .before .before .loop .inv in
+    (omega arith, i .1, going-same (i .1) (i .2) (omega arith) (c .if1 .taken) (at-slot .slot-to .ensures) (at-activate .activate .ensures))
+
+array-read-old : tie.Need-array-read-old Inv-loop μ-loop
+array-read-old c =
+    let at-pair = c .before .before .before .before .before .before .before in
+    let i = at-pair .before .before .before .loop .inv in
+    let w = going-worked (i .1) (i .2) (omega arith) in
+    omega (arith, w .listener)
+
 mul-hear : tie.Need-mul-hear Inv-loop μ-loop
 mul-hear c =
-    let i = c .before .before .before .loop .inv in
+    let at-pair = c .before .before .before .before .before .before .before in
+    let i = at-pair .before .before .before .loop .inv in
     let w = going-worked (i .1) (i .2) (omega arith) in
     omega (arith, w .listener)
 
 index-1-hear : tie.Need-index-1-hear Inv-loop μ-loop
 index-1-hear c =
-    let i = c .before .before .before .loop .inv in
+    let at-pair = c .before .before .before .before .before .before .before in
+    let i = at-pair .before .before .before .loop .inv in
     let w = going-worked (i .1) (i .2) (omega arith) in
     omega (arith, w .listener)
 
 mul-hear-2 : tie.Need-mul-hear-2 Inv-loop μ-loop
 mul-hear-2 c =
-    let at-pair = c .before in
+    let at-if = c .before in
+    let at-pair = at-if .before .before .before .before .before .before .before in
     let i = at-pair .before .before .before .loop .inv in
     let w = going-worked (i .1) (i .2) (omega arith) in
     omega (arith, w .listener)
 
 index-1-hear-2 : tie.Need-index-1-hear-2 Inv-loop μ-loop
 index-1-hear-2 c =
-    let at-pair = c .before in
+    let at-if = c .before in
+    let at-pair = at-if .before .before .before .before .before .before .before in
     let i = at-pair .before .before .before .loop .inv in
     let w = going-worked (i .1) (i .2) (omega arith) in
     omega (arith, w .listener)
 
 hear-requires : tie.Need-hear-requires Inv-loop μ-loop
-hear-requires c κs =
-    let at-pair = c .before .before .before in
-    let i = at-pair .before .before .before .loop .inv in
-    let w = going-worked (i .1) (i .2) (omega arith) in
-    omega (arith, w .listener, w .speaker, i .2 .long)
+hear-requires c κs = omega arith
 
 array-write-choices : tie.Need-array-write-choices Inv-loop μ-loop
 array-write-choices c =
     let at-hear = c .before .before in
-    let at-pair = at-hear .before .before .before .before in
+    let at-if = at-hear .before .before .before .before in
+    let at-pair = at-if .before .before .before .before .before .before .before in
     let i = at-pair .before .before .before .loop .inv in
     let w = going-worked (i .1) (i .2) (omega arith) in
     omega (arith, w .listener)
@@ -132,7 +210,8 @@ movement-requires c κs = omega arith
 add-requires : tie.Need-add-requires Inv-loop μ-loop
 add-requires c κs =
     let at-hear = c .before .before .before .before in
-    let at-pair = at-hear .before .before .before .before in
+    let at-if = at-hear .before .before .before .before in
+    let at-pair = at-if .before .before .before .before .before .before .before in
     let i = at-pair .before .before .before .loop .inv in
     let w = going-worked (i .1) (i .2) (omega arith) in
     let e = at-hear .hear .ensures in
@@ -145,74 +224,24 @@ cast-counted c = omega arith
 counted-requires : tie.Need-counted-requires Inv-loop μ-loop
 counted-requires c κs = omega arith
 
-slice-aggregate-activate : tie.Need-slice-aggregate-activate Inv-loop μ-loop
-slice-aggregate-activate c =
-    let at-add = c .before .before .before in
+loop-less-2 : tie.Need-loop-less-2 Inv-loop μ-loop
+loop-less-2 c = omega arith
+
+loop-again-2 : tie.Need-loop-again-2 Inv-loop μ-loop
+loop-again-2 c =
+    let at-add = c .before .before in
     let at-hear = at-add .before .before .before .before .before in
-    let at-pair = at-hear .before .before .before .before in
-    let i = at-pair .before .before .before .loop .inv in
-    omega (arith, i .2 .size)
-
-mul-activate : tie.Need-mul-activate Inv-loop μ-loop
-mul-activate c =
-    let at-add = c .before .before .before in
-    let at-hear = at-add .before .before .before .before .before in
-    let at-pair = at-hear .before .before .before .before in
-    let i = at-pair .before .before .before .loop .inv in
-    let w = going-worked (i .1) (i .2) (omega arith) in
-    omega (arith, w .listener)
-
-mul-slot-to : tie.Need-mul-slot-to Inv-loop μ-loop
-mul-slot-to c =
-    let at-add = c .before .before .before in
-    let at-hear = at-add .before .before .before .before .before in
-    let at-pair = at-hear .before .before .before .before in
-    let i = at-pair .before .before .before .loop .inv in
-    let w = going-worked (i .1) (i .2) (omega arith) in
-    omega (arith, w .listener)
-
-index-1-slot-to : tie.Need-index-1-slot-to Inv-loop μ-loop
-index-1-slot-to c =
-    let at-add = c .before .before .before in
-    let at-hear = at-add .before .before .before .before .before in
-    let at-pair = at-hear .before .before .before .before in
-    let i = at-pair .before .before .before .loop .inv in
-    let w = going-worked (i .1) (i .2) (omega arith) in
-    omega (arith, w .listener)
-
-slot-to-requires : tie.Need-slot-to-requires Inv-loop μ-loop
-slot-to-requires c κs = omega arith
-
-add-activate : tie.Need-add-activate Inv-loop μ-loop
-add-activate c =
-    let at-add = c .before .before .before .before .before in
-    let at-hear = at-add .before .before .before .before .before in
-    let at-pair = at-hear .before .before .before .before in
-    let i = at-pair .before .before .before .loop .inv in
-    let w = going-worked (i .1) (i .2) (omega arith) in
-    omega (arith, w .listener, slot-small _ _ _ (c .slot-to .ensures))
-
-activate-requires : tie.Need-activate-requires Inv-loop μ-loop
-activate-requires c κs = omega arith
-
-loop-less : tie.Need-loop-less Inv-loop μ-loop
-loop-less c = omega arith
-
-loop-again : tie.Need-loop-again Inv-loop μ-loop
-loop-again c =
-    let at-activate = c .before in
-    let at-slot = at-activate .before in
-    let at-count = at-slot .before .before .before in
-    let at-add = at-count .before .before in
-    let at-hear = at-add .before .before .before .before .before in
-    let at-pair = at-hear .before .before .before .before in
+    let at-if = at-hear .before .before .before .before in
+    let at-activate = at-if .before .before .before in
+    let at-slot = at-activate .before .before in
+    let at-pair = at-slot .before .before in
     let i = at-pair .before .before .before .loop .inv in
     let e = at-hear .hear .ensures in
     let m = small-told _ _ (moved-small _ _) (at-add .before .movement .ensures) in (
       omega arith,
       i .1,
       going-more (i .1) (i .2) (omega arith) (e .stored) (e .chosen) m (at-slot .slot-to .ensures) (at-activate .activate .ensures)
-          (at-add .add .ensures) (at-count .counted .ensures),
+          (at-add .add .ensures) (c .counted .ensures),
     )
 
 answer-of-requires : tie.Need-answer-of-requires Inv-loop μ-loop
@@ -245,9 +274,22 @@ work-spec =
     shared-slice-read-speaker
     add-i
     cast-v
-    array-read-old
     cast-said
     array-read-said
+    mul-pair
+    mul-slot-to
+    index-1-slot-to
+    slot-to-requires
+    add-pair
+    slice-aggregate-activate
+    activate-requires
+    mul-if1
+    cast-if1
+    add-if1
+    slice-read-if1
+    loop-less
+    loop-again
+    array-read-old
     mul-hear
     index-1-hear
     mul-hear-2
@@ -258,15 +300,8 @@ work-spec =
     add-requires
     cast-counted
     counted-requires
-    slice-aggregate-activate
-    mul-activate
-    mul-slot-to
-    index-1-slot-to
-    slot-to-requires
-    add-activate
-    activate-requires
-    loop-less
-    loop-again
+    loop-less-2
+    loop-again-2
     answer-of-requires
     same-length
     same-length-2
