@@ -9,10 +9,10 @@ use native.Mathlib.Omega.{arith}
 use native.Mathlib.Nat.{not-suc-le-zero}
 use lib.ListN.{length, getD, length-map, List·getD-eq-default}
 use lib.Dec.{eqb, ltb}
-use borrow.Author.Tests.{eq-eqb, lt-ltb, le-ltb, eqb-true, ltb-true}
+use borrow.Author.Tests.{eq-eqb, ne-eqb, lt-ltb, le-ltb, eqb-true, ltb-true}
 use Rattle.lists.specs.Tests.{true≢, by-test, by-equal, by-less, by-option, and-parts}
 use Rattle.lists.specs.Search.{firstFrom, countBelow}
-use Rattle.lists.specs.SearchLaws.{Found, first-found, first-none, search-hit, search-end, count-in, count-out, count-ext, count-most, count-one}
+use Rattle.lists.specs.SearchLaws.{Found, first-hit, first-miss, first-end, first-found, first-none, search-hit, search-end, count-in, count-out, count-ext, count-most, count-one}
 use Rattle.lists.specs.ListLaws.{getD-within, any-at, some-at}
 use Rattle.lists.specs.NumberLaws.{told-first, told-second}
 use Rattle.lists.specs.Fill.{padded, tabulate}
@@ -49,6 +49,32 @@ module _ (nexts : List ℕ) (u : ℕ) where
         by-equal j k
         (λ e. absurd (f (eqb-true _ u (rw e at (r .passes)))))
         (λ e. omega (arith, r .from)))
+
+  -- the same search from behind: the first slot from k on that leads to u
+  unfoldable pub slotFrom : ℕ → ℕ
+  slotFrom k = elim (firstFrom there k (16 - k)) [ none ↦ 16 | some j ↦ j ]
+
+  pub from-none : 16 ≡ slotFrom 16
+  unfolding slotFrom
+  from-none = rw (first-end there 16, slotFrom)
+
+  pub from-all : slotFrom 0 ≡ slotTo nexts u
+  unfolding slotFrom slotTo
+  from-all = refl
+
+  module _ (k slot : ℕ) (come : slot ≡ slotFrom k) (h : 1 ≤ k) (l : k ≤ 16) where
+    left-over : 16 - (k - 1) ≡ suc (16 - k)
+    left-over = omega arith
+
+    pub from-hit : getD nexts (k - 1) 0 ≡ u → k - 1 ≡ slotFrom (k - 1)
+    unfolding slotFrom
+    from-hit e = rw (left-over, first-hit there (k - 1) (16 - k) (eq-eqb _ u e), slotFrom)
+
+    pub from-miss : getD nexts (k - 1) 0 ≢ u → slot ≡ slotFrom (k - 1)
+    unfolding slotFrom
+    from-miss f =
+        let z : suc (k - 1) ≡ k = omega arith in
+        come ∙ sym (rw (left-over, first-miss there (k - 1) (16 - k) (ne-eqb _ u f), z, slotFrom))
 
   -- a slot that is found leads to u, and is no later than any that does
   slot-found : slotTo nexts u < 16 → Found there 0 16 (slotTo nexts u)

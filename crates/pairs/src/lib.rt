@@ -67,6 +67,22 @@ pub fn slot_to(nexts: &[u8; 16], u: u8) -> usize
     SLOTS
 }
 
+// The same slot, found without a branch on the bytes: in the inner loop of a run, where a speaker cannot be foretold, to look
+// at all 16 takes less time.
+pub fn steady_slot_to(nexts: &[u8; 16], u: u8) -> usize
+    ensures { λ r. ⌜ r ≡ slotTo (now (nexts .entry)) u ⌝ }
+{
+    let mut slot = SLOTS;
+    let mut k = SLOTS;
+    while 0 < k {
+        k -= 1;
+        if nexts[k] == u {
+            slot = k;
+        }
+    }
+    slot
+}
+
 // Whether a slot leads to the vertex u; what is no vertex is never led to.
 fn leads_to(nexts: &[u8; 16], u: u8) -> bool
     ensures { λ r. ⌜ r ≡ leadsIn (now (nexts .entry)) u ⌝ }

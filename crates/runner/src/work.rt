@@ -12,7 +12,7 @@ use answer::RunAnswer;
 use answer::RunVerdict;
 use choice::choice_bytes;
 use pairs::count_pairs;
-use pairs::slot_to;
+use pairs::steady_slot_to;
 use rests::asked_bytes;
 use stepper::hear;
 use tally::Counts;
@@ -69,7 +69,7 @@ pub(crate) fn work(
         i += 1;
         let v = listener as usize;
         let said = choices[speaker as usize];
-        let pair = 16 * v + slot_to(&nexts[v], speaker);
+        let pair = 16 * v + steady_slot_to(&nexts[v], speaker);
         rounds = activate(&mut stamps, pair, rounds, all);
         if heard[64 * v + speaker as usize] == said {
             continue;

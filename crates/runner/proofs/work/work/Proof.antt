@@ -85,27 +85,27 @@ mul-pair c =
     let w = going-worked (i .1) (i .2) (omega arith) in
     omega (arith, w .listener)
 
-mul-slot-to : tie.Need-mul-slot-to Inv-loop μ-loop
-mul-slot-to c =
+mul-steady-slot-to : tie.Need-mul-steady-slot-to Inv-loop μ-loop
+mul-steady-slot-to c =
     let i = c .before .before .before .loop .inv in
     let w = going-worked (i .1) (i .2) (omega arith) in
     omega (arith, w .listener)
 
-index-1-slot-to : tie.Need-index-1-slot-to Inv-loop μ-loop
-index-1-slot-to c =
+index-1-steady-slot-to : tie.Need-index-1-steady-slot-to Inv-loop μ-loop
+index-1-steady-slot-to c =
     let i = c .before .before .before .loop .inv in
     let w = going-worked (i .1) (i .2) (omega arith) in
     omega (arith, w .listener)
 
-slot-to-requires : tie.Need-slot-to-requires Inv-loop μ-loop
-slot-to-requires c κs = omega arith
+steady-slot-to-requires : tie.Need-steady-slot-to-requires Inv-loop μ-loop
+steady-slot-to-requires c κs = omega arith
 
 add-pair : tie.Need-add-pair Inv-loop μ-loop
 add-pair c =
     let at-pair = c .before .before in
     let i = at-pair .before .before .before .loop .inv in
     let w = going-worked (i .1) (i .2) (omega arith) in
-    omega (arith, w .listener, slot-small _ _ _ (c .slot-to .ensures))
+    omega (arith, w .listener, slot-small _ _ _ (c .steady-slot-to .ensures))
 
 slice-aggregate-activate : tie.Need-slice-aggregate-activate Inv-loop μ-loop
 slice-aggregate-activate c =
@@ -153,7 +153,7 @@ loop-again c =
     let at-slot = at-activate .before .before in
     let at-pair = at-slot .before .before in
     let i = at-pair .before .before .before .loop .inv in
-    (omega arith, i .1, going-same (i .1) (i .2) (omega arith) (c .if1 .taken) (at-slot .slot-to .ensures) (at-activate .activate .ensures))
+    (omega arith, i .1, going-same (i .1) (i .2) (omega arith) (c .if1 .taken) (at-slot .steady-slot-to .ensures) (at-activate .activate .ensures))
 
 array-read-old : tie.Need-array-read-old Inv-loop μ-loop
 array-read-old c =
@@ -240,7 +240,7 @@ loop-again-2 c =
     let m = small-told _ _ (moved-small _ _) (at-add .before .movement .ensures) in (
       omega arith,
       i .1,
-      going-more (i .1) (i .2) (omega arith) (e .stored) (e .chosen) m (at-slot .slot-to .ensures) (at-activate .activate .ensures)
+      going-more (i .1) (i .2) (omega arith) (e .stored) (e .chosen) m (at-slot .steady-slot-to .ensures) (at-activate .activate .ensures)
           (at-add .add .ensures) (c .counted .ensures),
     )
 
@@ -277,9 +277,9 @@ work-spec =
     cast-said
     array-read-said
     mul-pair
-    mul-slot-to
-    index-1-slot-to
-    slot-to-requires
+    mul-steady-slot-to
+    index-1-steady-slot-to
+    steady-slot-to-requires
     add-pair
     slice-aggregate-activate
     activate-requires
