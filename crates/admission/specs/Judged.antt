@@ -1,14 +1,15 @@
 -- What is judged before the first store, by where the slots lead.
-use Prim.Native.Nat.{ℕ, _-_, _/_, _%_}
+use Prim.Native.Nat.{ℕ, _-_, _%_}
+use mathlib.Core.Path.{_≡_}
 use mathlib.Core.Bool.{Bool, true, false, not, _&&_, _||_}
 use mathlib.Core.List.{List, []}
 use mathlib.Core.Option.{Option, none, some}
 use lib.ListN.{length, getD}
 use lib.Dec.{eqb, ltb}
 use Rattle.lists.specs.Search.{firstIn}
-use Rattle.rules.specs.Machine.{Pair}
-use Rattle.rules.specs.Run.{pairsIn}
-use Rattle.pairs.specs.NextHops.{hearsFrom, listensIn}
+use Rattle.rules.specs.Refusals.{refusal}
+use Rattle.pairs.specs.SlotPaths.{slotted}
+use Rattle.pairs.specs.NextHops.{Rows, listensIn}
 
 -- the place that was found, or another number where none was
 unfoldable pub placeOr : ℕ → Option ℕ → ℕ
@@ -27,10 +28,9 @@ badHeard nexts k b = elim (eqb b 0) [ true ↦ false | false ↦ not (listensIn 
 unfoldable pub badOffset : List (List ℕ) → List ℕ → ℕ
 badOffset nexts heard = placeOr (length heard) (firstIn (badHeard nexts) 0 heard)
 
--- a pair that does not listen
-unfoldable pub unheard : List (List ℕ) → ℕ → Pair → Bool
-unheard nexts i p = not (hearsFrom nexts (p .listener) (p .speaker))
-
--- the number of the first pair that does not listen, the number of pairs where all do
-unfoldable pub badPair : List (List ℕ) → List ℕ → ℕ
-badPair nexts s = placeOr (length s / 2) (firstIn (unheard nexts) 0 (pairsIn s))
+-- an accepted table and a heard state of the right length, with where the slots lead and the lowest bad offset
+pub record Surveyed (t heard : List ℕ) (nexts : List (List ℕ)) (at : ℕ) : Type 0 where
+  pub accepted : refusal t ≡ none
+  pub long : length heard ≡ 4096
+  pub leads : Rows (slotted t) nexts
+  pub found : at ≡ badOffset nexts heard

@@ -10,38 +10,38 @@ use lib.ListN.{length, getD, drop}
 use lib.Dec.{eqb, ltb}
 use borrow.Author.Tests.{lt-ltb, le-ltb, eq-eqb, ne-eqb}
 use Rattle.lists.specs.Search.{firstIn}
-use Rattle.lists.specs.Fill.{tabulate}
 use Rattle.lists.specs.Tests.{by-equal, by-less, by-option}
 use Rattle.lists.specs.ListLaws.{first-in-under, first-in-ext, seek-hit, seek-next, seek-end}
-use Rattle.rules.specs.Table.{Path, listens, listensAt}
-use Rattle.rules.specs.Machine.{Pair, speaks, badAt, badByte, heardFault}
-use Rattle.rules.specs.Run.{pairsIn}
-use Rattle.rules.specs.Answers.{firstBadPair}
+use Rattle.rules.specs.Table.{Path, pathsOf, present}
+use Rattle.rules.specs.Refusals.{refusal}
+use Rattle.rules.specs.Machine.{speaks, badAt, badByte, heardFault}
 use Rattle.laws.specs.Shape.{Shaped}
-use Rattle.laws.specs.MachineLaws.{speaks-destination, speaks-other, bad-same}
-use Rattle.laws.specs.ScheduleLaws.{pairs-length, pairs-at}
-use Rattle.pairs.specs.NextHops.{nextRow, hearsFrom, listensIn}
-use Rattle.pairs.specs.NextHopLaws.{hears-other, hears-told, all-listens, row-small, row-empty}
-use Rattle.admission.specs.Judged.{placeOr, speaksIn, badHeard, badOffset, unheard, badPair}
+use Rattle.laws.specs.MachineLaws.{speaks-destination, speaks-other}
+use Rattle.laws.specs.ShapeLaws.{shaped}
+use Rattle.pairs.specs.SlotPaths.{slotted}
+use Rattle.pairs.specs.SlotPathLaws.{rows-told}
+use Rattle.pairs.specs.NextHops.{Rows, hearsFrom, listensIn}
+use Rattle.pairs.specs.NextHopLaws.{hears-other, all-listens, row-small, row-empty}
+use Rattle.admission.specs.Judged.{placeOr, speaksIn, badHeard, badOffset, Surveyed}
 
 -- a place that was found, and none
 
-place-some : (n : ℕ) (o : Option ℕ) (k : ℕ) → o ≡ some k → placeOr n o ≡ k
+pub place-some : (n : ℕ) (o : Option ℕ) (k : ℕ) → o ≡ some k → placeOr n o ≡ k
 unfolding placeOr
 place-some n o k e = rw e
 
-place-none : (n : ℕ) (o : Option ℕ) → o ≡ none → placeOr n o ≡ n
+pub place-none : (n : ℕ) (o : Option ℕ) → o ≡ none → placeOr n o ≡ n
 unfolding placeOr
 place-none n o e = rw e
 
 -- the answer of a search through a whole list tells whether it found something
 module _ {A : Type 0} (test : ℕ → A → Bool) (l : List A) (n r : ℕ) (long : length l ≡ n) (found : r ≡ placeOr n (firstIn test 0 l)) where
-  found-none : r ≡ n → firstIn test 0 l ≡ none
+  pub found-none : r ≡ n → firstIn test 0 l ≡ none
   found-none e =
       by-option (firstIn test 0 l) (λ q. q)
       (λ k q. absurd (omega (arith, place-some n (firstIn test 0 l) k q, first-in-under test l 0 k q)))
 
-  found-some : r ≢ n → firstIn test 0 l ≡ some r
+  pub found-some : r ≢ n → firstIn test 0 l ≡ some r
   found-some f =
       by-option (firstIn test 0 l) (λ q. absurd (f (found ∙ place-none n (firstIn test 0 l) q)))
       (λ k q. q ∙ ap some (sym (found ∙ place-some n (firstIn test 0 l) k q)))
@@ -98,38 +98,9 @@ module _ (nexts : List (List ℕ)) (heard : List ℕ) (k : ℕ)
   unfolding badOffset
   offset-end e = e ∙ sym (place-none _ _ (seek-end (badHeard nexts) heard 0 k _ come (omega arith)))
 
--- the search for the first bad pair, which has come to i
-module _ (nexts : List (List ℕ)) (s : List ℕ) (i : ℕ)
-    (come : firstIn (unheard nexts) i (drop i (pairsIn s)) ≡ firstIn (unheard nexts) 0 (pairsIn s)) where
-  abbrev none-there : Pair
-  none-there = record { listener = 0; speaker = 0 }
-
-  look : (b t : Bool)
-      → i < length s / 2
-      → b ≡ hearsFrom nexts (getD s (2 * i) 0) (getD s (2 * i + 1) 0)
-      → not b ≡ t
-      → unheard nexts i (getD (pairsIn s) i none-there) ≡ t
-  unfolding unheard
-  look b t h e q = rw (pairs-at s i none-there h, ← e) q
-
-  module _ (b : Bool) (h : i < length s / 2) (e : b ≡ hearsFrom nexts (getD s (2 * i) 0) (getD s (2 * i + 1) 0)) where
-    pub pair-hit : not b ≡ true → i ≡ badPair nexts s
-    unfolding badPair
-    pair-hit q =
-        sym (place-some _ _ i (seek-hit (unheard nexts) (pairsIn s) none-there i _ come (rw (pairs-length s) h) (look b true h e q)))
-
-    pub pair-next : not b ≡ false
-        → firstIn (unheard nexts) (i + 1) (drop (i + 1) (pairsIn s)) ≡ firstIn (unheard nexts) 0 (pairsIn s)
-    pair-next q = seek-next (unheard nexts) (pairsIn s) none-there i _ come (rw (pairs-length s) h) (look b false h e q)
-
-  pub pair-end : i ≡ length s / 2 → i ≡ badPair nexts s
-  unfolding badPair
-  pair-end e =
-      e ∙ sym (place-none _ _ (seek-end (unheard nexts) (pairsIn s) none-there i _ come (omega (arith, pairs-length s))))
-
 -- the answers over the slots of a table are the rules'
 module _ (paths : ℕ → List Path) (present : ℕ → Bool) (shaped : Shaped paths present) (nexts : List (List ℕ))
-    (leads : nexts ≡ tabulate (λ v. nextRow (paths v)) 64) where
+    (leads : Rows paths nexts) where
   -- who can speak of a byte speaks of as many paths
   spoken-told : (u b : ℕ) → u < 64 → b ≢ 0 → not (speaksIn nexts u b) ≡ ltb (length (speaks paths u)) b
   spoken-told u b h f =
@@ -172,28 +143,35 @@ module _ (paths : ℕ → List Path) (present : ℕ → Bool) (shaped : Shaped p
         ))))
 
     -- no bad offset: the state is valid
-    pub fault-none : r ≡ 4096 → heardFault paths heard ≡ none
+    fault-none : r ≡ 4096 → heardFault paths heard ≡ none
     unfolding badOffset
     fault-none e = sym same-fault ∙ found-none _ heard (length heard) r refl found (e ∙ sym long)
 
     -- otherwise it is the lowest
-    pub fault-some : r ≢ 4096 → heardFault paths heard ≡ some r
+    fault-some : r ≢ 4096 → heardFault paths heard ≡ some r
     unfolding badOffset
     fault-some f = sym same-fault ∙ found-some _ heard (length heard) r refl found (λ e. f (e ∙ long))
 
-  module _ (s : List ℕ) (r : ℕ) (found : r ≡ badPair nexts s) where
-    same-pairs : firstIn (unheard nexts) 0 (pairsIn s) ≡ firstBadPair paths (pairsIn s)
-    unfolding firstBadPair unheard
-    same-pairs =
-        first-in-ext (unheard nexts) (λ i p. not (listens paths (p .listener) (p .speaker))) (pairsIn s)
-        (record { listener = 0; speaker = 0 }) 0 (λ k h. ap not (hears-told paths present shaped nexts leads _ _))
+-- a survey tells whether the state is valid
 
-    -- no bad pair: the schedule listens throughout
-    pub pairs-none : r ≡ length s / 2 → firstBadPair paths (pairsIn s) ≡ none
-    unfolding badPair
-    pairs-none e = sym same-pairs ∙ found-none _ (pairsIn s) (length s / 2) r (pairs-length s) found e
+pub surveyed : {t heard : List ℕ} {nexts : List (List ℕ)} {at : ℕ}
+    → refusal t ≡ none
+    → length heard ≡ 4096
+    → Rows (slotted t) nexts
+    → at ≡ badOffset nexts heard
+    → Surveyed t heard nexts at
+surveyed e n l f = record { accepted = e; long = n; leads = l; found = f }
 
-    -- otherwise it is the first
-    pub pairs-some : r ≢ length s / 2 → firstBadPair paths (pairsIn s) ≡ some r
-    unfolding badPair
-    pairs-some f = sym same-pairs ∙ found-some _ (pairsIn s) (length s / 2) r (pairs-length s) found f
+module _ {t heard : List ℕ} {nexts : List (List ℕ)} {at : ℕ} (y : Surveyed t heard nexts at) where
+  pub survey-shape : Shaped (pathsOf t) (present t)
+  survey-shape = shaped t (y .accepted)
+
+  pub survey-rows : Rows (pathsOf t) nexts
+  survey-rows = rows-told t (y .accepted) nexts (y .leads)
+
+  -- the state is valid, or it has its lowest bad offset
+  pub survey-valid : at ≡ 4096 → heardFault (pathsOf t) heard ≡ none
+  survey-valid = fault-none (pathsOf t) (present t) survey-shape nexts survey-rows heard at (y .long) (y .found)
+
+  pub survey-bad : at ≢ 4096 → heardFault (pathsOf t) heard ≡ some at
+  survey-bad = fault-some (pathsOf t) (present t) survey-shape nexts survey-rows heard at (y .long) (y .found)

@@ -1,7 +1,7 @@
 // What is judged before the first store, by where the slots lead.
 ghost use mathlib.Core.Path.{_≡_};
 ghost use Prim.Native.Nat.{_<_, _≤_};
-ghost use Rattle.admission.specs.Judged.{speaksIn, badHeard, badOffset, badPair};
+ghost use Rattle.admission.specs.Judged.{speaksIn, badHeard, badOffset};
 use pairs::NOBODY;
 use pairs::is_listening;
 use table_facts::SLOTS;
@@ -52,20 +52,4 @@ pub fn bad_offset(nexts: &[[u8; 16]; 64], heard: &[u8]) -> usize
         k += 1;
     }
     k
-}
-
-// The number of the first pair that does not listen, the number of pairs where all do.
-pub fn bad_pair(nexts: &[[u8; 16]; 64], schedule: &[u8]) -> usize
-    ensures { λ r. ⌜ r ≡ badPair (now (nexts .entry)) (now (schedule .entry)) ⌝ }
-{
-    let count = schedule.len() / 2;
-    let mut i = 0;
-    while i < count {
-        let at = 2 * i;
-        if !is_listening(nexts, schedule[at], schedule[at + 1]) {
-            return i;
-        }
-        i += 1;
-    }
-    i
 }

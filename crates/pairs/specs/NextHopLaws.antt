@@ -6,7 +6,6 @@ use mathlib.Core.List.{List, [], map}
 use mathlib.Core.Option.{none, some}
 use Prim.Native.Nat.{ℕ, zero, suc, _+_, _-_, _*_, _/_, _%_, _<_, _≤_}
 use native.Mathlib.Omega.{arith}
-use native.Mathlib.Nat.{not-suc-le-zero}
 use lib.ListN.{length, getD, length-map, List·getD-eq-default}
 use lib.Dec.{eqb, ltb}
 use borrow.Author.Tests.{eq-eqb, ne-eqb, lt-ltb, le-ltb, eqb-true, ltb-true}
@@ -15,7 +14,7 @@ use Rattle.lists.specs.Search.{firstFrom, countBelow}
 use Rattle.lists.specs.SearchLaws.{Found, first-hit, first-miss, first-end, first-found, first-none, search-hit, search-end, count-in, count-out, count-ext, count-most, count-one}
 use Rattle.lists.specs.ListLaws.{getD-within, any-at, some-at}
 use Rattle.lists.specs.NumberLaws.{told-first, told-second}
-use Rattle.lists.specs.Fill.{padded, tabulate}
+use Rattle.lists.specs.Fill.{tabulate}
 use Rattle.lists.specs.FillLaws.{padded-at, padded-length, tabulate-at}
 use Rattle.lists.specs.RangeLaws.{map-at}
 use Rattle.rules.specs.Table.{Path, nextHop, leadsTo, listens, listensAt}

@@ -1,17 +1,22 @@
 -- Where slots lead, and who listens to whom by them, for any bytes.
 use Prim.Native.Nat.{ℕ, _+_, _*_, _/_, _%_}
+use mathlib.Core.Path.{_≡_}
 use mathlib.Core.Bool.{Bool, _&&_}
 use mathlib.Core.List.{List, [], map}
 use mathlib.Core.Option.{none, some}
 use lib.ListN.{getD}
 use lib.Dec.{eqb, ltb}
 use Rattle.lists.specs.Search.{firstFrom}
-use Rattle.lists.specs.Fill.{padded}
+use Rattle.lists.specs.Fill.{padded, tabulate}
 use Rattle.rules.specs.Table.{Path, nextHop}
 
 -- the next hop of each path over 16 slots, 255 behind them
 unfoldable pub nextRow : List Path → List ℕ
 nextRow own = padded 16 255 (map nextHop own)
+
+-- the rows of all vertices
+abbrev pub Rows : (ℕ → List Path) → List (List ℕ) → Type 0
+Rows paths nexts = nexts ≡ tabulate (λ v. nextRow (paths v)) 64
 
 -- the first slot that leads to u, 16 where none does
 unfoldable pub slotTo : List ℕ → ℕ → ℕ

@@ -17,10 +17,9 @@ use Rattle.lists.specs.FillLaws.{tabulate-at, padded-whole, padded-at, padded-m
 use Rattle.lists.specs.RangeLaws.{map-at}
 use Rattle.rules.specs.Table.{Path, records, pathAt, owned, pathsOf, pathsBelow, slotsOf}
 use Rattle.rules.specs.Refusals.{refusal}
-use Rattle.laws.specs.Shape.{Shaped}
 use Rattle.laws.specs.ShapeLaws.{shaped}
 use Rattle.laws.specs.Blocks.{few-records, owned-few, owned-below}
-use Rattle.pairs.specs.NextHops.{nextRow}
+use Rattle.pairs.specs.NextHops.{nextRow, Rows}
 use Rattle.pairs.specs.SlotPaths.{filled, slotPaths, heldIn, slotted, FilledTo}
 
 -- the records of a row
@@ -189,3 +188,7 @@ module _ (t : List ℕ) (e : refusal t ≡ none) where
   -- hold its permitted paths
   pub slotted-paths : slotted t ≡ pathsOf t
   slotted-paths = λ j v. held-at v j
+
+  -- and the rows found by them lead where those paths lead
+  pub rows-told : (nexts : List (List ℕ)) → Rows (slotted t) nexts → Rows (pathsOf t) nexts
+  rows-told nexts q = q ∙ ap (λ (held : ℕ → List Path). tabulate (λ v. nextRow (held v)) 64) slotted-paths

@@ -9,7 +9,7 @@ use lib.ListN.{length, getD, set, take, replicate, length-set, length-replicate}
 use lib.Seq.{take-all, length-take-le, getD-set-same, set-getD}
 use lib.IntN.{ℤ, pos, natAbs, _+ℤ_, _-ℤ_, +ℤ-idl, +ℤ-idr, +ℤ-invr}
 use lib.Dec.{eqb}
-use borrow.Author.Tests.{eq-eqb, ne-eqb}
+use borrow.Author.Tests.{eqb-true, eq-eqb, ne-eqb}
 use Rattle.lists.specs.Search.{same, countBelow}
 use Rattle.lists.specs.Fill.{tabulate}
 use Rattle.lists.specs.FillLaws.{tabulate-at, tabulate-length, tabulate-set, tabulate-alike, alike-at}
@@ -39,6 +39,7 @@ use Rattle.tally.specs.StampLaws.{stamped-none, closed-on, stamped-on}
 use Rattle.stepper.specs.Working.{Rows, Asks, Workable}
 use Rattle.stepper.specs.StepLaws.{byte-told, listening-worked, says-step, worked-small, worked-moved}
 use Rattle.runner.specs.Going.{Prepared, tallyAt, Going}
+use Rattle.runner.specs.Taking.{Takes, TakenIn}
 use Rattle.runner.specs.Ran.{accepted, Followed}
 
 -- the choices after a step: the listener's is new
@@ -143,6 +144,13 @@ module _ {t start schedule : List ℕ} {nexts asked : List (List ℕ)} {all : �
     unfolding choiceBytes
     going-byte w l = ap (λ (c : List ℕ). getD c w 0) (g .chosen) ∙ tabulate-at (λ x. byteFor paths x (choice paths heard x)) 64 w 0 l
 
+    -- the listener's choice is that of its row
+    going-row : (x : List ℕ) → choiceByte (getD nexts v []) (getD asked v []) x v ≡ byteFor paths v (choice paths x v)
+    going-row x =
+        byte-told t (f .accepted) nexts (f .rows) v (going-worked .listener) (getD asked v [])
+        (ap (λ (l : List (List ℕ)). getD l v []) (f .asks) ∙ tabulate-at (λ w. askedRow paths (paths w)) 64 v [] (going-worked .listener))
+        x _ refl
+
     -- its offset
     abbrev at : ℕ
     at = 64 * v + u
@@ -171,151 +179,162 @@ module _ {t start schedule : List ℕ} {nexts asked : List (List ℕ)} {all : �
         rw tally-on (telescoped-on paths (listeningOffsets paths) (begun start) (tallyAt t start schedule i) pair
         (going-worked .speaker) (omega (arith, going-worked .listener, length-replicate 64 (pos 0))) (g .telescoped))
 
-    -- the step
-    module _ {after : List ℕ} {new : ℕ} (store : after ≡ set heard (64 * v + u) (getD choices u 0))
-        (choose : new ≡ choiceByte (getD nexts v []) (getD asked v []) after v) {m : ℤ} (move : m ≡ moved (getD choices v 0) new) where
-      abbrev old : ℕ
-      old = getD choices v 0
+    -- each sum so far is a difference of two standings
+    going-small : natAbs (getD sums v (pos 0)) ≤ 16
+    unfolding begun
+    going-small =
+        let y = tallyAt t start schedule i in
+        let a = standing paths (y .heard) v in
+        let b = standing paths start v in
+        let e : getD sums v (pos 0) ≡ pos a -ℤ pos b =
+        ap (λ (l : List ℤ). getD l v (pos 0)) (g .summed)
+        ∙ g .telescoped .sum v ∙ ap (λ c. c +ℤ pos a -ℤ pos b) (alike-at 64 v (pos 0)) ∙ ap (λ c. c -ℤ pos b) (+ℤ-idl (pos a)) in
+        rw e (difference-most a b 16 (standing-most paths (y .heard) v) (standing-most paths start v))
 
-      stepped : after ≡ step paths heard pair
-      stepped = says-step going-worked (getD choices u 0) after (going-byte u (going-worked .speaker)) store
+    pub going-takes : Takes choices sums v u
+    going-takes =
+        record {
+          listener = going-worked .listener;
+          speaker = going-worked .speaker;
+          longChoices = g .longChoices;
+          longSums = g .longSums;
+          small = going-small;
+        }
 
-      was : old ≡ byteFor paths v (choice paths heard v)
-      was = going-byte v (going-worked .listener)
+    -- its number, and the rounds with it
+    module _ {number : ℕ} (told : number ≡ 16 * v + slotTo (getD nexts v []) u) {stampsNow : List ℕ} {closedNow missingNow : ℕ}
+        (a : Activated stamps number closed missing all stampsNow closedNow missingNow) where
+      few : closed < 65535
+      few = omega (arith, g .fewRounds, f .short)
 
-      now : new ≡ byteFor paths v (choice paths after v)
-      now =
-          byte-told t (f .accepted) nexts (f .rows) v (going-worked .listener) (getD asked v [])
-          (ap (λ (l : List (List ℕ)). getD l v []) (f .asks) ∙ tabulate-at (λ w. askedRow paths (paths w)) 64 v [] (going-worked .listener))
-          after new choose
+      numbers : Activated stamps (pairNumber nexts at) closed missing all stampsNow closedNow missingNow
+      numbers = rw (number-of nexts v u (going-worked .speaker) ∙ sym told) a
 
-      -- the movement as the rules' run sees it
-      moved-is : moved old new ≡ movement paths (tallyAt t start schedule i .heard) pair
-      moved-is = worked-moved going-worked after old new stepped was now ∙ ap (λ (x : List ℕ). movement paths x pair) (g .state)
+      closing : closedNow ≤ suc closed
+      closing =
+          let left = eqb (leftAfter stamps number closed missing) 0 in
+          omega (arith, a .closing ∙ more-to 65535 left closed few, more-most left closed)
 
-      -- the sums afterwards are those of the rules, so the listener's is a difference of two standings
-      sums-next : (sumsNow : List ℤ) → sumsNow ≡ set sums v (getD sums v (pos 0) +ℤ m) → sumsNow ≡ tallyAt t start schedule (i + 1) .sums
-      unfolding activated
-      sums-next sumsNow q =
-          let y = tallyAt t start schedule i in
-          q ∙ ap (λ (l : List ℤ). set l v (getD l v (pos 0) +ℤ m)) (g .summed)
-          ∙ ap (λ x. set (y .sums) v (getD (y .sums) v (pos 0) +ℤ x)) (move ∙ moved-is) ∙ sym (ap (λ (z : Tally). z .sums) tally-on)
+      rounds-next : closedNow ≡ tallyAt t start schedule (i + 1) .rounds
+      unfolding activated offsetOf
+      rounds-next =
+          closed-on paths (pairNumber nexts) (g .stamped) at at-small heard-at few numbers (f .pairs)
+          ∙ ap (more (closes (listeningOffsets paths) (at ∷ tallyAt t start schedule i .since))) (g .rounds)
+          ∙ sym (ap (λ (z : Tally). z .rounds) tally-on)
 
-      pub going-small : natAbs (getD sums v (pos 0) +ℤ m) ≤ 16
-      unfolding begun
-      going-small =
-          let a = standing paths (tallyAt t start schedule (i + 1) .heard) v in
-          let b = standing paths start v in
-          let sum = getD sums v (pos 0) +ℤ m in
-          let e : sum ≡ pos a -ℤ pos b =
-          sym (getD-set-same sums v sum (pos 0) (omega (arith, g .longSums, going-worked .listener)))
-          ∙ ap (λ (l : List ℤ). getD l v (pos 0)) (sums-next (set sums v sum) refl)
-          ∙ telescoped-next .sum v ∙ ap (λ c. c +ℤ pos a -ℤ pos b) (alike-at 64 v (pos 0)) ∙ ap (λ c. c -ℤ pos b) (+ℤ-idl (pos a)) in
-          rw e (difference-most a b 16 (standing-most paths (tallyAt t start schedule (i + 1) .heard) v) (standing-most paths start v))
+      stamped-next : Stamped (listensAt paths) (pairNumber nexts) stampsNow closedNow missingNow (tallyAt t start schedule (i + 1) .since)
+      unfolding activated offsetOf
+      stamped-next =
+          rw (ap (λ (z : Tally). z .since) tally-on)
+          (stamped-on paths (pairNumber nexts) (g .stamped) at at-small heard-at few numbers (f .pairs))
 
-      -- the last change
-      abbrev latest : Bool → ℕ → ℕ → ℕ
-      latest kept x n = elim kept [ true ↦ x | false ↦ n ]
+      -- what the listener takes in
+      module _ {heardNow choicesNow : List ℕ} {sumsNow : List ℤ} {upsNow downsNow lastNow : ℕ}
+          (w : TakenIn nexts asked heard choices sums v u ups downs last (i + 1) heardNow choicesNow sumsNow upsNow downsNow lastNow) where
+        abbrev old : ℕ
+        old = getD choices v 0
 
-      changed-next : (lastNow : ℕ) → lastNow ≡ lastOf old new (i + 1) last → lastNow ≡ tallyAt t start schedule (i + 1) .lastChange
-      unfolding activated lastOf
-      changed-next lastNow le =
-          let y = tallyAt t start schedule i in
-          let kept : eqb old new ≡ same (choice paths (y .heard) v) (choice paths (step paths (y .heard) pair) v) =
-          choice-same paths heard after v old new was now
-          ∙ ap (λ (x : List ℕ). same (choice paths heard v) (choice paths x v)) stepped
-          ∙ ap (λ (x : List ℕ). same (choice paths x v) (choice paths (step paths x pair) v)) (g .state) in
-          let count : i + 1 ≡ suc (y .steps) = omega (arith, tally-count) in
-          le ∙ ap (λ (b : Bool). latest b last (i + 1)) kept
-          ∙ ap (λ x. latest (same (choice paths (y .heard) v) (choice paths (step paths (y .heard) pair) v)) x (i + 1)) (g .changed)
-          ∙ ap (latest (same (choice paths (y .heard) v) (choice paths (step paths (y .heard) pair) v)) (y .lastChange)) count
-          ∙ sym (ap (λ (z : Tally). z .lastChange) tally-on)
+        abbrev new : ℕ
+        new = w .new
 
-      -- the rounds
-      module _ {stampsNow : List ℕ} {closedNow missingNow slot : ℕ} (told : slot ≡ slotTo (getD nexts v []) u)
-          (a : Activated stamps (16 * v + slot) closed missing all stampsNow closedNow missingNow) where
-        few : closed < 65535
-        few = omega (arith, g .fewRounds, f .short)
+        abbrev way : ℤ
+        way = moved old new
 
-        numbers : Activated stamps (pairNumber nexts at) closed missing all stampsNow closedNow missingNow
-        numbers =
-            let z : pairNumber nexts at ≡ 16 * v + slot = number-of nexts v u (going-worked .speaker) ∙ ap (λ n. 16 * v + n) (sym told) in
-            rw z a
+        stepped : heardNow ≡ step paths heard pair
+        stepped = says-step going-worked (getD choices u 0) heardNow (going-byte u (going-worked .speaker)) (w .stored)
 
-        closing : closedNow ≤ suc closed
-        closing =
-            let left = eqb (leftAfter stamps (16 * v + slot) closed missing) 0 in
-            omega (arith, a .closing ∙ more-to 65535 left closed few, more-most left closed)
+        was : old ≡ byteFor paths v (choice paths heard v)
+        was = going-byte v (going-worked .listener)
 
-        rounds-next : closedNow ≡ tallyAt t start schedule (i + 1) .rounds
-        unfolding activated offsetOf
-        rounds-next =
-            closed-on paths (pairNumber nexts) (g .stamped) at at-small heard-at few numbers (f .pairs)
-            ∙ ap (more (closes (listeningOffsets paths) (at ∷ tallyAt t start schedule i .since))) (g .rounds)
-            ∙ sym (ap (λ (z : Tally). z .rounds) tally-on)
+        is : new ≡ byteFor paths v (choice paths heardNow v)
+        is = w .chosen ∙ going-row heardNow
 
-        stamped-next : Stamped (listensAt paths) (pairNumber nexts) stampsNow closedNow missingNow (tallyAt t start schedule (i + 1) .since)
-        unfolding activated offsetOf
-        stamped-next =
-            rw (ap (λ (z : Tally). z .since) tally-on)
-            (stamped-on paths (pairNumber nexts) (g .stamped) at at-small heard-at few numbers (f .pairs))
+        -- the movement as the rules' run sees it
+        moved-is : way ≡ movement paths (tallyAt t start schedule i .heard) pair
+        moved-is = worked-moved going-worked heardNow old new stepped was is ∙ ap (λ (x : List ℕ). movement paths x pair) (g .state)
+
+        sums-next : sumsNow ≡ tallyAt t start schedule (i + 1) .sums
+        unfolding activated
+        sums-next =
+            let y = tallyAt t start schedule i in
+            w .added ∙ ap (λ (l : List ℤ). set l v (getD l v (pos 0) +ℤ way)) (g .summed)
+            ∙ ap (λ x. set (y .sums) v (getD (y .sums) v (pos 0) +ℤ x)) moved-is ∙ sym (ap (λ (z : Tally). z .sums) tally-on)
+
+        -- the last change
+        abbrev latest : Bool → ℕ → ℕ → ℕ
+        latest kept x n = elim kept [ true ↦ x | false ↦ n ]
+
+        changed-next : lastNow ≡ tallyAt t start schedule (i + 1) .lastChange
+        unfolding activated lastOf
+        changed-next =
+            let y = tallyAt t start schedule i in
+            let kept : eqb old new ≡ same (choice paths (y .heard) v) (choice paths (step paths (y .heard) pair) v) =
+            choice-same paths heard heardNow v old new was is
+            ∙ ap (λ (x : List ℕ). same (choice paths heard v) (choice paths x v)) stepped
+            ∙ ap (λ (x : List ℕ). same (choice paths x v) (choice paths (step paths x pair) v)) (g .state) in
+            let count : i + 1 ≡ suc (y .steps) = omega (arith, tally-count) in
+            w .counts .change ∙ ap (λ (b : Bool). latest b last (i + 1)) kept
+            ∙ ap (λ x. latest (same (choice paths (y .heard) v) (choice paths (step paths (y .heard) pair) v)) x (i + 1)) (g .changed)
+            ∙ ap (latest (same (choice paths (y .heard) v) (choice paths (step paths (y .heard) pair) v)) (y .lastChange)) count
+            ∙ sym (ap (λ (z : Tally). z .lastChange) tally-on)
+
+        -- no count has come to its end
+        ups-next : upsNow ≡ more (isUp way) ups
+        ups-next = w .counts .up ∙ more-to 4294967295 (isUp way) ups (omega (arith, g .moves, f .short))
+
+        downs-next : downsNow ≡ more (isDown way) downs
+        downs-next = w .counts .down ∙ more-to 4294967295 (isDown way) downs (omega (arith, g .moves, f .short))
 
         -- one pair more
-        pub going-more : {sumsNow : List ℤ} {upsNow downsNow lastNow : ℕ}
-            → sumsNow ≡ set sums v (getD sums v (pos 0) +ℤ m)
-            → CountedStep old new (i + 1) ups downs last upsNow downsNow lastNow
-            → Going t start schedule nexts (i + 1) after (set choices v new) sumsNow upsNow downsNow lastNow stampsNow closedNow missingNow
+        pub going-more : Going t start schedule nexts (i + 1) heardNow choicesNow sumsNow upsNow downsNow lastNow stampsNow closedNow missingNow
         unfolding activated
-        going-more {sumsNow} {upsNow} {downsNow} {lastNow} se c =
-            let y = tallyAt t start schedule i in
-            let w = movement paths (y .heard) pair in
-            let ue : upsNow ≡ more (isUp (moved old new)) ups = c .up ∙ more-to 4294967295 (isUp (moved old new)) ups (omega (arith, g .moves, f .short)) in
-            let de : downsNow ≡ more (isDown (moved old new)) downs = c .down ∙ more-to 4294967295 (isDown (moved old new)) downs (omega (arith, g .moves, f .short)) in
+        going-more =
+            let moves = movement paths (tallyAt t start schedule i .heard) pair in
             record {
               state = stepped ∙ ap (λ (x : List ℕ). step paths x pair) (g .state) ∙ sym (ap (λ (z : Tally). z .heard) tally-on);
-              chosen = ap (λ (c : List ℕ). set c v new) (g .chosen)
-                  ∙ choices-on paths heard pair (going-worked .speaker) new (now ∙ ap (λ (x : List ℕ). byteFor paths v (choice paths x v)) stepped)
+              chosen = w .kept ∙ ap (λ (c : List ℕ). set c v new) (g .chosen)
+                  ∙ choices-on paths heard pair (going-worked .speaker) new (is ∙ ap (λ (x : List ℕ). byteFor paths v (choice paths x v)) stepped)
                   ∙ sym (ap (choiceBytes paths) stepped);
-              summed = sums-next sumsNow se;
+              summed = sums-next;
               telescoped = telescoped-next;
-              up = ue ∙ ap (λ x. more (isUp x) ups) moved-is ∙ ap (more (isUp w)) (g .up) ∙ sym (ap (λ (z : Tally). z .ups) tally-on);
-              down = de ∙ ap (λ x. more (isDown x) downs) moved-is ∙ ap (more (isDown w)) (g .down) ∙ sym (ap (λ (z : Tally). z .downs) tally-on);
-              changed = changed-next lastNow (c .change);
+              up = ups-next ∙ ap (λ x. more (isUp x) ups) moved-is ∙ ap (more (isUp moves)) (g .up) ∙ sym (ap (λ (z : Tally). z .ups) tally-on);
+              down = downs-next ∙ ap (λ x. more (isDown x) downs) moved-is ∙ ap (more (isDown moves)) (g .down) ∙ sym (ap (λ (z : Tally). z .downs) tally-on);
+              changed = changed-next;
               rounds = rounds-next;
               stamped = stamped-next;
-              size = ap length (a .stamping) ∙ length-set stamps (16 * v + slot) (openRound closed) ∙ g .size;
+              size = ap length (a .stamping) ∙ length-set stamps number (openRound closed) ∙ g .size;
               long = ap length stepped ∙ step-length paths heard pair ∙ g .long;
-              longChoices = length-set choices v new ∙ g .longChoices;
-              longSums = ap length se ∙ length-set sums v (getD sums v (pos 0) +ℤ m) ∙ g .longSums;
-              moves = omega (arith, more-both (moved old new) ups downs, g .moves, ue, de);
+              longChoices = ap length (w .kept) ∙ length-set choices v new ∙ g .longChoices;
+              longSums = ap length (w .added) ∙ length-set sums v (getD sums v (pos 0) +ℤ way) ∙ g .longSums;
+              moves = omega (arith, more-both way ups downs, g .moves, ups-next, downs-next);
               fewRounds = omega (arith, g .fewRounds, closing);
             }
 
-    -- where the byte that the speaker says is there already, only the rounds go on
-    module _ (said : getD heard (64 * v + u) 0 ≡ getD choices u 0)
-        {stampsNow : List ℕ} {closedNow missingNow slot : ℕ} (told : slot ≡ slotTo (getD nexts v []) u)
-        (a : Activated stamps (16 * v + slot) closed missing all stampsNow closedNow missingNow) where
-      abbrev stays : ℕ
-      stays = getD choices v 0
+      -- where the byte that the speaker says is there already, only the rounds go on
+      module _ {r : Bool} (asked-for : r ≡ eqb (getD heard (64 * v + u) 0) (getD choices u 0)) (there : r ≡ true) where
+        abbrev stays : ℕ
+        stays = getD choices v 0
 
-      -- the listener's choice is that of its row
-      chosen-still : stays ≡ choiceByte (getD nexts v []) (getD asked v []) heard v
-      chosen-still =
-          going-byte v (going-worked .listener)
-          ∙ sym (byte-told t (f .accepted) nexts (f .rows) v (going-worked .listener) (getD asked v [])
-          (ap (λ (l : List (List ℕ)). getD l v []) (f .asks) ∙ tabulate-at (λ w. askedRow paths (paths w)) 64 v [] (going-worked .listener))
-          heard _ refl)
+        said : getD heard (64 * v + u) 0 ≡ getD choices u 0
+        said = eqb-true (getD heard (64 * v + u) 0) (getD choices u 0) (sym asked-for ∙ there)
 
-      still : pos 0 ≡ moved stays stays
-      unfolding moved
-      still = sym (+ℤ-invr (pos (standingOf stays)))
+        still : moved stays stays ≡ pos 0
+        unfolding moved
+        still = +ℤ-invr (pos (standingOf stays))
 
-      pub going-same : Going t start schedule nexts (i + 1) heard choices sums ups downs last stampsNow closedNow missingNow
-      going-same =
-          rw (set-getD choices v 0) at
-          (going-more (sym (ap (set heard (64 * v + u)) (sym said) ∙ set-getD heard (64 * v + u) 0)) chosen-still still told a
-          (sym (ap (set sums v) (+ℤ-idr (getD sums v (pos 0))) ∙ set-getD sums v (pos 0)))
-          (counted-same stays stays (i + 1) ups downs last refl))
+        nothing-new : TakenIn nexts asked heard choices sums v u ups downs last (i + 1) heard choices sums ups downs last
+        nothing-new =
+            record {
+              new = stays;
+              stored = sym (ap (set heard (64 * v + u)) (sym said) ∙ set-getD heard (64 * v + u) 0);
+              chosen = going-byte v (going-worked .listener) ∙ sym (going-row heard);
+              kept = sym (set-getD choices v 0);
+              added = sym (ap (λ x. set sums v (getD sums v (pos 0) +ℤ x)) still ∙ ap (set sums v) (+ℤ-idr (getD sums v (pos 0))) ∙ set-getD sums v (pos 0));
+              counts = counted-same stays stays (i + 1) ups downs last refl;
+            }
+
+        pub going-same : Going t start schedule nexts (i + 1) heard choices sums ups downs last stampsNow closedNow missingNow
+        going-same = going-more nothing-new
 
   -- after the last pair the run has ended
   module _ {i : ℕ} {heard choices : List ℕ} {sums : List ℤ} {ups downs last : ℕ} {stamps : List ℕ} {closed missing : ℕ}

@@ -1,33 +1,37 @@
 // The run over a schedule: the state and the whole schedule are judged before anything is stored.
-mod judged;
+mod pair;
 mod sums;
 mod work;
 
 ghost use mathlib.Core.Path.{_≡_};
-ghost use Rattle.runner.specs.Ran.{Ran};
-use crate::judged::refusal_of;
-use crate::judged::run_accepted;
-use admission::HEARD_LENGTH;
+ghost use Rattle.runner.specs.Ran.{refused, Ran};
+use crate::work::work;
 use answer::RunAnswer;
-use reader::Reading;
-use reader::read;
+use answer::RunVerdict;
+use run_admission::admit_run;
 
-// The number of sums.
-const SUMS_LENGTH: usize = 64;
+// A refusal's other numbers are 0.
+fn refusal_of(number: u8, place: usize) -> RunAnswer
+    ensures { λ r. ⌜ r ≡ refused number place ⌝ }
+{
+    RunAnswer {
+        verdict: RunVerdict::Refused(number, place),
+        steps: 0,
+        ups: 0,
+        downs: 0,
+        last: 0,
+        rounds: 0,
+    }
+}
 
 // Works a schedule, and answers what it counted and each vertex's sum; a refused call changes no byte.
 pub fn run_schedule(table: &[u8], heard: &mut [u8], schedule: &[u8], sums: &mut [i32]) -> RunAnswer
     ensures { λ r. ⌜ Ran (now (table .entry)) (now (heard .entry)) (now (schedule .entry)) (now (sums .entry)) r (now (heard .exit)) (now (sums .exit)) ⌝ }
 {
-    if heard.len() != HEARD_LENGTH {
-        return refusal_of(1, 0);
-    }
-    if sums.len() != SUMS_LENGTH {
-        return refusal_of(1, 0);
-    }
-    let reading = read(table);
-    let Reading::Refused(number, place) = reading else {
-        return run_accepted(table, heard, schedule, sums);
+    let mut nexts = [[0; 16]; 64];
+    let admission = admit_run(table, heard, schedule, sums, &mut nexts);
+    let RunVerdict::Refused(number, place) = admission.verdict else {
+        return work(table, &nexts, heard, schedule, sums, admission.rounds);
     };
     refusal_of(number, place)
 }

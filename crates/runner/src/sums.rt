@@ -7,7 +7,7 @@ ghost use Rattle.lists.specs.Fill.{tabulate};
 
 // Adds a movement to a vertex's sum, which stays within a standing's bounds since it telescopes.
 pub(crate) fn add(sums: &mut [i32], v: usize, moved: i32)
-    requires { ⌜ (v < length (now sums)) × (natAbs (getD (now sums) v (pos 0) +ℤ moved) ≤ 16) ⌝ }
+    requires { ⌜ (v < length (now sums)) × (natAbs (getD (now sums) v (pos 0)) ≤ 16) × (natAbs moved ≤ 16) ⌝ }
     ensures { λ r. ⌜ now (sums .exit) ≡ set (now (sums .entry)) v (getD (now (sums .entry)) v (pos 0) +ℤ moved) ⌝ }
 {
     sums[v] = sums[v] + moved;

@@ -6,25 +6,21 @@ ghost use Rattle.rules.specs.Run.{pairsIn, run};
 ghost use Rattle.stepper.specs.Working.{Rows};
 ghost use Rattle.runner.specs.Going.{Ready};
 ghost use Rattle.runner.specs.Ran.{Followed};
-use crate::sums::add;
+use crate::pair::hear_pair;
 use crate::sums::clear;
 use answer::RunAnswer;
 use answer::RunVerdict;
 use choice::choice_bytes;
 use pairs::count_pairs;
-use pairs::steady_slot_to;
 use rests::asked_bytes;
-use stepper::hear;
 use tally::Counts;
 use tally::Rounds;
 use tally::activate;
-use tally::counted;
-use tally::movement;
 
 // The answer of an accepted run.
-fn answer_of(steps: usize, counts: Counts, rounds: Rounds) -> RunAnswer
+fn answer_of(steps: usize, counts: Counts, rounds: u16) -> RunAnswer
     requires { ⌜ steps ≤ 16384 ⌝ }
-    ensures { λ r. ⌜ r ≡ record { verdict = RunVerdict.Accepted; steps = steps; ups = counts .ups; downs = counts .downs; last = counts .last; rounds = rounds .closed } ⌝ }
+    ensures { λ r. ⌜ r ≡ record { verdict = RunVerdict.Accepted; steps = steps; ups = counts .ups; downs = counts .downs; last = counts .last; rounds = rounds } ⌝ }
 {
     RunAnswer {
         verdict: RunVerdict::Accepted,
@@ -32,7 +28,7 @@ fn answer_of(steps: usize, counts: Counts, rounds: Rounds) -> RunAnswer
         ups: counts.ups,
         downs: counts.downs,
         last: counts.last,
-        rounds: rounds.closed as u32,
+        rounds: rounds as u32,
     }
 }
 
@@ -44,41 +40,36 @@ pub(crate) fn work(
     heard: &mut [u8],
     schedule: &[u8],
     sums: &mut [i32],
+    rounds: u16,
 ) -> RunAnswer
     requires { ⌜ Ready (now table) (now heard) (now schedule) (now sums) × Rows (pathsOf (now table)) (now nexts) ⌝ }
-    ensures { λ r. ⌜ Followed (run (pathsOf (now (table .entry))) (now (heard .entry)) (pairsIn (now (schedule .entry)))) r (now (heard .exit)) (now (sums .exit)) ⌝ }
+    ensures { λ r.
+        ⌜
+        Followed (run (pathsOf (now (table .entry))) (now (heard .entry)) (pairsIn (now (schedule .entry))))
+        r (now (heard .exit)) (now (sums .exit))
+        ⌝ }
 {
-    let asked = asked_bytes(table);
-    let all = count_pairs(nexts);
     clear(sums);
+    let asked = asked_bytes(table);
     let mut choices = choice_bytes(nexts, &asked, heard);
-    let mut stamps = [0u16; 1024];
     let mut counts = Counts {
         ups: 0,
         downs: 0,
         last: 0,
     };
-    let mut rounds = Rounds {
-        closed: 0,
-        missing: all,
-    };
     let mut i = 0;
     while i < schedule.len() / 2 {
-        let listener = schedule[2 * i];
-        let speaker = schedule[2 * i + 1];
+        counts = hear_pair(
+            nexts,
+            &asked,
+            heard,
+            &mut choices,
+            schedule,
+            sums,
+            i,
+            counts,
+        );
         i += 1;
-        let v = listener as usize;
-        let said = choices[speaker as usize];
-        let pair = 16 * v + steady_slot_to(&nexts[v], speaker);
-        rounds = activate(&mut stamps, pair, rounds, all);
-        if heard[64 * v + speaker as usize] == said {
-            continue;
-        }
-        let old = choices[v];
-        let new = hear(&nexts[v], &asked[v], heard, listener, speaker, said);
-        choices[v] = new;
-        add(sums, v, movement(old, new));
-        counts = counted(counts, i as u32, old, new);
     }
     answer_of(i, counts, rounds)
 }

@@ -24,25 +24,22 @@ use Rattle.laws.specs.ShapeLaws.{shaped}
 use Rattle.answer.specs.declared.StepAnswer.the-variants.{Moved, Refused}
 use Rattle.answer.specs.Moves.{stepRefusalIn, movementIn}
 use Rattle.pairs.specs.SlotPaths.{slotPaths, heldIn, slotted}
-use Rattle.pairs.specs.SlotPathLaws.{slotted-paths}
-use Rattle.pairs.specs.NextHops.{nextRow, hearsFrom}
+use Rattle.pairs.specs.SlotPathLaws.{slotted-paths, rows-told}
+use Rattle.pairs.specs.NextHops.{Rows, hearsFrom}
 use Rattle.pairs.specs.NextHopLaws.{row-told, hears-told}
 use Rattle.rests.specs.Rests.{askedRow}
 use Rattle.rests.specs.RestLaws.{asked-slotted}
 use Rattle.choice.specs.Choosing.{choiceByte, choicesBy}
 use Rattle.choice.specs.ChoosingLaws.{choice-told, choices-told}
-use Rattle.admission.specs.Judged.{badOffset}
-use Rattle.admission.specs.JudgedLaws.{fault-none, fault-some}
+use Rattle.admission.specs.Judged.{Surveyed}
+use Rattle.admission.specs.JudgedLaws.{survey-shape, survey-rows, survey-valid, survey-bad}
 use Rattle.tally.specs.Counting.{moved}
 use Rattle.tally.specs.CountingLaws.{small-told}
-use Rattle.stepper.specs.Working.{Rows, Asks, Workable, Surveyed}
+use Rattle.stepper.specs.Working.{Asks, Workable}
 use Rattle.stepper.specs.Stepped.{Stepped}
 
 -- what serves every step, found in an accepted table
 module _ (t : List ℕ) (e : refusal t ≡ none) where
-  pub rows-told : (nexts : List (List ℕ)) → nexts ≡ tabulate (λ v. nextRow (slotted t v)) 64 → Rows (pathsOf t) nexts
-  rows-told nexts q = q ∙ ap (λ (held : ℕ → List Path). tabulate (λ v. nextRow (held v)) 64) (slotted-paths t e)
-
   pub asks-told : (asked : List (List ℕ)) → asked ≡ tabulate (λ v. askedRow (slotted t) (slotted t v)) 64 → Asks (pathsOf t) asked
   asks-told asked q = q ∙ ap (λ (held : ℕ → List Path). tabulate (λ v. askedRow held (held v)) 64) (slotted-paths t e)
 
@@ -156,39 +153,18 @@ module _ (table heard : List ℕ) (p : Pair) where
 
 -- over an accepted table, with where its slots lead
 
-pub surveyed : {t heard : List ℕ} {nexts : List (List ℕ)} {at : ℕ}
-    → refusal t ≡ none
-    → length heard ≡ 4096
-    → nexts ≡ tabulate (λ v. nextRow (slotted t v)) 64
-    → at ≡ badOffset nexts heard
-    → Surveyed t heard nexts at
-surveyed e n l f = record { accepted = e; long = n; leads = l; found = f }
-
 module _ {t heard : List ℕ} {nexts : List (List ℕ)} {at : ℕ} (y : Surveyed t heard nexts at) where
-  shape : Shaped (pathsOf t) (present t)
-  shape = shaped t (y .accepted)
-
-  pub survey-rows : Rows (pathsOf t) nexts
-  survey-rows = rows-told t (y .accepted) nexts (y .leads)
-
-  -- the state is valid, or it has its lowest bad offset
-  pub survey-valid : at ≡ 4096 → heardFault (pathsOf t) heard ≡ none
-  survey-valid = fault-none (pathsOf t) (present t) shape nexts survey-rows heard at (y .long) (y .found)
-
-  pub survey-bad : at ≢ 4096 → heardFault (pathsOf t) heard ≡ some at
-  survey-bad = fault-some (pathsOf t) (present t) shape nexts survey-rows heard at (y .long) (y .found)
-
   -- the state is not valid
   pub way-heard : (p : Pair) → at ≢ 4096 → Stepped t heard p (Refused 12 at) heard
-  way-heard p f = stepped-refused t heard p 12 at (step-refused-heard t heard p (y .long) (y .accepted) at (survey-bad f))
+  way-heard p f = stepped-refused t heard p 12 at (step-refused-heard t heard p (y .long) (y .accepted) at (survey-bad y f))
 
   module _ (valid : at ≡ 4096) (p : Pair) (b : Bool) (told : b ≡ hearsFrom nexts (p .listener) (p .speaker)) where
     listens-told : b ≡ listens (pathsOf t) (p .listener) (p .speaker)
-    listens-told = told ∙ hears-told (pathsOf t) (present t) shape nexts survey-rows (p .listener) (p .speaker)
+    listens-told = told ∙ hears-told (pathsOf t) (present t) (survey-shape y) nexts (survey-rows y) (p .listener) (p .speaker)
 
     -- the pair does not listen
     pub way-pair : b ≡ false → Stepped t heard p (Refused 14 0) heard
-    way-pair f = stepped-refused t heard p 14 0 (step-refused-pair t heard p (y .long) (y .accepted) (survey-valid valid) (sym listens-told ∙ f))
+    way-pair f = stepped-refused t heard p 14 0 (step-refused-pair t heard p (y .long) (y .accepted) (survey-valid y valid) (sym listens-told ∙ f))
 
     -- it does
     pub way-worked : b ≡ true → Workable t heard (p .listener) (p .speaker)
@@ -197,7 +173,7 @@ module _ {t heard : List ℕ} {nexts : List (List ℕ)} {at : ℕ} (y : Surveyed
     pub way-moved : b ≡ true → (m : ℤ) (after : List ℕ) → m ≡ movement (pathsOf t) heard p → after ≡ step (pathsOf t) heard p
         → Stepped t heard p (Moved (toZ w32 (ofZ w32 m))) after
     way-moved f m after q r =
-        stepped-accepted t heard p (toZ w32 (ofZ w32 m)) after (step-accepted t heard p (y .long) (y .accepted) (survey-valid valid) (sym listens-told ∙ f))
+        stepped-accepted t heard p (toZ w32 (ofZ w32 m)) after (step-accepted t heard p (y .long) (y .accepted) (survey-valid y valid) (sym listens-told ∙ f))
         (moved-told (pathsOf t) heard p m q) r
 
 -- the choices
@@ -205,7 +181,7 @@ module _ {t heard : List ℕ} {nexts : List (List ℕ)} {at : ℕ} (y : Surveyed
 module _ (t heard : List ℕ) where
   pub choices-accepted : (nexts asked : List (List ℕ)) (c : List ℕ)
       → refusal t ≡ none
-      → nexts ≡ tabulate (λ v. nextRow (slotted t v)) 64
+      → Rows (slotted t) nexts
       → asked ≡ tabulate (λ v. askedRow (slotted t) (slotted t v)) 64
       → c ≡ choicesBy nexts asked heard
       → c ≡ choicesIn t heard

@@ -4,7 +4,7 @@ use mathlib.Core.Logic.{_≢_}
 use mathlib.Core.Bool.{Bool, true, false}
 use Prim.Native.Nat.{ℕ, zero, suc, _+_, _-_, _<_, _≤_, min}
 use native.Mathlib.Omega.{arith}
-use lib.IntN.{ℤ, pos, negsuc, natAbs, _-ℤ_, +ℤ-invr}
+use lib.IntN.{ℤ, pos, negsuc, natAbs, _+ℤ_, _-ℤ_, +ℤ-comm, +ℤ-invr}
 use mir.Val.{SFits, toZ, ofZ}
 use mir.Facts.{toZ-ofZ}
 use mir.Syntax.{w32}
@@ -15,12 +15,24 @@ use Rattle.laws.specs.MachineLaws.{standing-of-most}
 use Rattle.rules.specs.Run.{more, isUp, isDown}
 use Rattle.tally.specs.Counting.{moved, moreTo, lastOf, CountedStep}
 
--- a number of the size of a standing fits 32 bits
-pub small-fits : (z : ℤ) → natAbs z ≤ 16 → SFits w32 z
-small-fits (pos n) h = record { sfits = omega arith }
-small-fits (negsuc n) h = record { sfits = omega arith }
+-- a number of the size of two standings fits 32 bits
+within : (z : ℤ) → natAbs z ≤ 32 → SFits w32 z
+within (pos n) h = record { sfits = omega arith }
+within (negsuc n) h = record { sfits = omega arith }
 
--- and is read back from its bits
+-- so one of the size of a standing does
+pub small-fits : (z : ℤ) → natAbs z ≤ 16 → SFits w32 z
+small-fits z h = within z (omega (arith, h))
+
+-- and the sum of two
+pub sum-fits : (a b : ℤ) → natAbs a ≤ 16 → natAbs b ≤ 16 → SFits w32 (a +ℤ b)
+sum-fits (pos a) (pos b) h l = within (pos a +ℤ pos b) (omega arith)
+sum-fits (pos a) (negsuc b) h l = within (pos a +ℤ negsuc b) (difference-most a (suc b) 32 (omega arith) (omega arith))
+sum-fits (negsuc a) (pos b) h l =
+    rw (+ℤ-comm (negsuc a) (pos b)) (within (pos b +ℤ negsuc a) (difference-most b (suc a) 32 (omega arith) (omega arith)))
+sum-fits (negsuc a) (negsuc b) h l = within (negsuc a +ℤ negsuc b) (omega arith)
+
+-- a small number is read back from its bits
 pub small-told : (z d : ℤ) → natAbs d ≤ 16 → z ≡ d → toZ w32 (ofZ w32 z) ≡ d
 small-told z d h e = rw e (toZ-ofZ {w = w32} (small-fits d h))
 

@@ -3,7 +3,8 @@
 use borrow.Author.Needs.{needs}
 use borrow.Author.Tests.{not-true, not-false}
 use Rattle.pairs.specs.SlotPathLaws.{rows-slotted}
-use Rattle.stepper.specs.StepLaws.{surveyed, survey-rows, way-heard, way-pair, way-worked, way-moved}
+use Rattle.admission.specs.JudgedLaws.{surveyed, survey-rows}
+use Rattle.stepper.specs.StepLaws.{way-heard, way-pair, way-worked, way-moved}
 use Rattle.stepper.proofs.step_accepted.Statement.{statement}
 use Rattle.stepper.proofs.step_accepted.Tie as tie
 

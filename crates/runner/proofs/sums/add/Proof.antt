@@ -1,7 +1,7 @@
--- `runner::sums::add` meets its contract: the sum fits, as its contract asks.
+-- `runner::sums::add` meets its contract: the sum of two small numbers fits.
 -- Assumes nothing.
 use borrow.Author.Needs.{needs}
-use Rattle.tally.specs.CountingLaws.{small-fits}
+use Rattle.tally.specs.CountingLaws.{sum-fits}
 use Rattle.runner.proofs.sums.add.Statement.{statement}
 use Rattle.runner.proofs.sums.add.Tie as tie
 
@@ -12,7 +12,7 @@ slice-copy-out-sums : tie.Need-slice-copy-out-sums
 slice-copy-out-sums c = search needs
 
 add-sums : tie.Need-add-sums
-add-sums c = search (needs, small-fits)
+add-sums c = search (needs, sum-fits)
 
 mul-t8 : tie.Need-mul-t8
 mul-t8 c = search needs
@@ -24,7 +24,7 @@ same-length : tie.Need-same-length
 same-length c = search needs
 
 returns : tie.Need-returns
-returns c = search (needs, small-fits)
+returns c = search (needs, sum-fits)
 
 pub add-spec : {M : Type 1} → statement M
 add-spec =

@@ -1,0 +1,33 @@
+-- What is judged before a run stores anything, and what an accepted run may rely on.
+use Prim.Native.Nat.{ℕ, _≤_}
+use mathlib.Core.Path.{_≡_}
+use mathlib.Core.List.{List}
+use mathlib.Core.Option.{none}
+use lib.ListN.{length}
+use lib.IntN.{ℤ}
+use Rattle.rules.specs.Table.{pathsOf}
+use Rattle.rules.specs.Refusals.{refusal}
+use Rattle.rules.specs.Run.{pairsIn, run}
+use Rattle.rules.specs.Answers.{firstBadPair, runRefusal}
+use Rattle.answer.specs.declared.RunVerdict.{RunVerdict}
+use Rattle.answer.specs.Moves.{runRefusalIn}
+use Rattle.pairs.specs.NextHops.{Rows}
+
+-- an accepted table and a schedule that listens throughout, with the lengths, where the slots lead, and the rounds
+pub record Ready (t heard s : List ℕ) (sums : List ℤ) (nexts : List (List ℕ)) (closed : ℕ) : Type 0 where
+  pub accepted : refusal t ≡ none
+  pub long : length heard ≡ 4096
+  pub longSums : length sums ≡ 64
+  pub short : length s ≤ 32768
+  pub listens : firstBadPair (pathsOf t) (pairsIn s) ≡ none
+  pub rows : Rows (pathsOf t) nexts
+  pub rounds : closed ≡ run (pathsOf t) heard (pairsIn s) .rounds
+
+-- the verdict for all inputs; what is found on the way is told where the run is accepted
+pub record RunAdmitted (t heard s : List ℕ) (sums : List ℤ) (verdict : RunVerdict) (closed : ℕ) (nexts : List (List ℕ)) : Type 0 where
+  pub judged : runRefusalIn verdict ≡ runRefusal t heard s sums
+  pub ready : runRefusal t heard s sums ≡ none → Ready t heard s sums nexts closed
+
+-- the same with any sums of the right length, for an accepted table and a heard state of its length
+abbrev pub AdmittedBySchedule : List ℕ → List ℕ → List ℕ → RunVerdict → ℕ → List (List ℕ) → Type 0
+AdmittedBySchedule t heard s verdict closed nexts = (sums : List ℤ) → length sums ≡ 64 → RunAdmitted t heard s sums verdict closed nexts
