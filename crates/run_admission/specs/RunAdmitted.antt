@@ -13,11 +13,10 @@ use Rattle.answer.specs.declared.RunVerdict.{RunVerdict}
 use Rattle.answer.specs.Moves.{runRefusalIn}
 use Rattle.pairs.specs.NextHops.{Rows}
 
--- an accepted table and a schedule that listens throughout, with the lengths, where the slots lead, and the rounds
-pub record Ready (t heard s : List ℕ) (sums : List ℤ) (nexts : List (List ℕ)) (closed : ℕ) : Type 0 where
+-- an accepted table, a state of its length and a schedule that listens throughout, with where the slots lead and the rounds
+pub record Ready (t heard s : List ℕ) (nexts : List (List ℕ)) (closed : ℕ) : Type 0 where
   pub accepted : refusal t ≡ none
   pub long : length heard ≡ 4096
-  pub longSums : length sums ≡ 64
   pub short : length s ≤ 32768
   pub listens : firstBadPair (pathsOf t) (pairsIn s) ≡ none
   pub rows : Rows (pathsOf t) nexts
@@ -26,7 +25,8 @@ pub record Ready (t heard s : List ℕ) (sums : List ℤ) (nexts : List (List �
 -- the verdict for all inputs; what is found on the way is told where the run is accepted
 pub record RunAdmitted (t heard s : List ℕ) (sums : List ℤ) (verdict : RunVerdict) (closed : ℕ) (nexts : List (List ℕ)) : Type 0 where
   pub judged : runRefusalIn verdict ≡ runRefusal t heard s sums
-  pub ready : runRefusal t heard s sums ≡ none → Ready t heard s sums nexts closed
+  pub ready : runRefusal t heard s sums ≡ none → Ready t heard s nexts closed
+  pub longSums : runRefusal t heard s sums ≡ none → length sums ≡ 64
 
 -- the same with any sums of the right length, for an accepted table and a heard state of its length
 abbrev pub AdmittedBySchedule : List ℕ → List ℕ → List ℕ → RunVerdict → ℕ → List (List ℕ) → Type 0

@@ -31,7 +31,7 @@ pub admitted-not : {t heard s : List ℕ} {sums : List ℤ} {verdict : RunVerdic
     → verdict ≡ Refused n k
     → RunAdmitted t heard s sums verdict closed nexts
 unfolding runRefusalIn
-admitted-not e q = record { judged = ap runRefusalIn q ∙ sym e; ready = λ z. absurd (none≢some z e) }
+admitted-not e q = record { judged = ap runRefusalIn q ∙ sym e; ready = λ z. absurd (none≢some z e); longSums = λ z. absurd (none≢some z e) }
 
 -- the schedule's length
 
@@ -81,10 +81,10 @@ module _ {t heard : List ℕ} {nexts : List (List ℕ)} {at : ℕ} (y : Surveyed
             ready = λ z. record {
               accepted = y .accepted;
               long = y .long;
-              longSums = m;
               short = short;
               listens = listens;
               rows = survey-rows y;
               rounds = w .closed t heard (y .accepted) (survey-rows y) short all;
             };
+            longSums = λ z. m;
           }

@@ -28,7 +28,7 @@ pub struct Admission {
 
 // A refusal leaves the rest at 0.
 fn refused(number: u8, place: usize) -> Admission
-    ensures { λ r. ⌜ r ≡ record { verdict = RunVerdict.Refused number place; rounds = 0 } ⌝ }
+    ensures { λ r. ⌜ r .verdict ≡ RunVerdict.Refused number place ⌝ }
 {
     Admission {
         verdict: RunVerdict::Refused(number, place),
@@ -37,7 +37,12 @@ fn refused(number: u8, place: usize) -> Admission
 }
 
 // The state of an accepted table, then the schedule.
-fn admit_accepted(table: &[u8], heard: &[u8], schedule: &[u8], nexts: &mut [[u8; 16]; 64]) -> Admission
+fn admit_accepted(
+    table: &[u8],
+    heard: &[u8],
+    schedule: &[u8],
+    nexts: &mut [[u8; 16]; 64],
+) -> Admission
     requires { ⌜ (refusal (now table) ≡ none) × (length (now heard) ≡ 4096) ⌝ }
     ensures { λ r.
         ⌜
@@ -68,7 +73,13 @@ fn admit_accepted(table: &[u8], heard: &[u8], schedule: &[u8], nexts: &mut [[u8;
 }
 
 // Judges a run in the order of the rules; the rows of next hops and the rounds are those of an accepted one.
-pub fn admit_run(table: &[u8], heard: &[u8], schedule: &[u8], sums: &[i32], nexts: &mut [[u8; 16]; 64]) -> Admission
+pub fn admit_run(
+    table: &[u8],
+    heard: &[u8],
+    schedule: &[u8],
+    sums: &[i32],
+    nexts: &mut [[u8; 16]; 64],
+) -> Admission
     ensures { λ r.
         ⌜
         RunAdmitted (now (table .entry)) (now (heard .entry)) (now (schedule .entry)) (now (sums .entry))

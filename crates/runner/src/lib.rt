@@ -1,4 +1,4 @@
-// The run over a schedule: the state and the whole schedule are judged before anything is stored.
+// The run over a schedule: all is judged before anything is stored.
 mod pair;
 mod sums;
 mod work;
@@ -26,11 +26,16 @@ fn refusal_of(number: u8, place: usize) -> RunAnswer
 
 // Works a schedule, and answers what it counted and each vertex's sum; a refused call changes no byte.
 pub fn run_schedule(table: &[u8], heard: &mut [u8], schedule: &[u8], sums: &mut [i32]) -> RunAnswer
-    ensures { λ r. ⌜ Ran (now (table .entry)) (now (heard .entry)) (now (schedule .entry)) (now (sums .entry)) r (now (heard .exit)) (now (sums .exit)) ⌝ }
+    ensures { λ r.
+        ⌜
+        Ran (now (table .entry)) (now (heard .entry)) (now (schedule .entry)) (now (sums .entry))
+        r (now (heard .exit)) (now (sums .exit))
+        ⌝ }
 {
     let mut nexts = [[0; 16]; 64];
     let admission = admit_run(table, heard, schedule, sums, &mut nexts);
-    let RunVerdict::Refused(number, place) = admission.verdict else {
+    let verdict = admission.verdict;
+    let RunVerdict::Refused(number, place) = verdict else {
         return work(table, &nexts, heard, schedule, sums, admission.rounds);
     };
     refusal_of(number, place)

@@ -1,10 +1,5 @@
-// One pair of a run: its number, whether what the speaker says is there already, and what it moves where it is not.
+// One pair of a run: where what the speaker says is there already nothing changes, otherwise the listener takes it in.
 ghost use mathlib.Core.Path.{_≡_};
-ghost use mathlib.Core.List.{[]};
-ghost use Prim.Native.Nat.{_+_, _*_, _<_};
-ghost use lib.ListN.{length, getD};
-ghost use lib.Dec.{eqb};
-ghost use Rattle.pairs.specs.NextHops.{slotTo};
 ghost use Rattle.runner.specs.Taking.{Takes, TakenIn};
 use crate::sums::add;
 use stepper::hear;
@@ -12,7 +7,7 @@ use tally::Counts;
 use tally::counted;
 use tally::movement;
 
-// Stores what u says, and v chooses; its movement is added to its sum and counted with the number of the step.
+// Works the pair with the number i, from 0: what u says is stored, v chooses, and its movement is added to its sum and counted.
 pub(crate) fn hear_pair(
     nexts: &[[u8; 16]; 64],
     asked: &[[u8; 16]; 64],
@@ -23,11 +18,11 @@ pub(crate) fn hear_pair(
     i: usize,
     counts: Counts,
 ) -> Counts
-    requires { ⌜ Takes (now choices) (now sums) 0 0 ⌝ }
+    requires { ⌜ Takes (now schedule) i (now heard) (now choices) (now sums) ⌝ }
     ensures { λ r.
         ⌜
-        TakenIn (now (nexts .entry)) (now (asked .entry)) (now (heard .entry)) (now (choices .entry)) (now (sums .entry)) 0 0
-        (counts .ups) (counts .downs) (counts .last) i
+        TakenIn (now (nexts .entry)) (now (asked .entry)) (now (schedule .entry)) i
+        (now (heard .entry)) (now (choices .entry)) (now (sums .entry)) (counts .ups) (counts .downs) (counts .last)
         (now (heard .exit)) (now (choices .exit)) (now (sums .exit)) (r .ups) (r .downs) (r .last)
         ⌝ }
 {

@@ -1,26 +1,33 @@
 // The run over an accepted schedule: what serves every step is found once, then the pairs are worked one after the other.
 ghost use mathlib.Core.Path.{_≡_};
 ghost use Prim.Native.Nat.{_≤_};
+ghost use lib.ListN.{length};
 ghost use Rattle.rules.specs.Table.{pathsOf};
 ghost use Rattle.rules.specs.Run.{pairsIn, run};
-ghost use Rattle.stepper.specs.Working.{Rows};
-ghost use Rattle.runner.specs.Going.{Ready};
+ghost use Rattle.run_admission.specs.RunAdmitted.{Ready};
 ghost use Rattle.runner.specs.Ran.{Followed};
 use crate::pair::hear_pair;
 use crate::sums::clear;
 use answer::RunAnswer;
 use answer::RunVerdict;
 use choice::choice_bytes;
-use pairs::count_pairs;
 use rests::asked_bytes;
 use tally::Counts;
-use tally::Rounds;
-use tally::activate;
 
 // The answer of an accepted run.
 fn answer_of(steps: usize, counts: Counts, rounds: u16) -> RunAnswer
     requires { ⌜ steps ≤ 16384 ⌝ }
-    ensures { λ r. ⌜ r ≡ record { verdict = RunVerdict.Accepted; steps = steps; ups = counts .ups; downs = counts .downs; last = counts .last; rounds = rounds } ⌝ }
+    ensures { λ r.
+        ⌜
+        r ≡ record {
+          verdict = RunVerdict.Accepted;
+          steps = steps;
+          ups = counts .ups;
+          downs = counts .downs;
+          last = counts .last;
+          rounds = rounds;
+        }
+        ⌝ }
 {
     RunAnswer {
         verdict: RunVerdict::Accepted,
@@ -32,8 +39,7 @@ fn answer_of(steps: usize, counts: Counts, rounds: u16) -> RunAnswer
     }
 }
 
-// Works a schedule that listens throughout, and answers what it counted; the sums begin at 0. Where the byte that the
-// speaker says is there already, only the rounds go on.
+// Works a schedule that listens throughout and closes so many rounds, and answers what it counted; the sums begin at 0.
 pub(crate) fn work(
     table: &[u8],
     nexts: &[[u8; 16]; 64],
@@ -42,7 +48,7 @@ pub(crate) fn work(
     sums: &mut [i32],
     rounds: u16,
 ) -> RunAnswer
-    requires { ⌜ Ready (now table) (now heard) (now schedule) (now sums) × Rows (pathsOf (now table)) (now nexts) ⌝ }
+    requires { ⌜ Ready (now table) (now heard) (now schedule) (now nexts) rounds × (length (now sums) ≡ 64) ⌝ }
     ensures { λ r.
         ⌜
         Followed (run (pathsOf (now (table .entry))) (now (heard .entry)) (pairsIn (now (schedule .entry))))

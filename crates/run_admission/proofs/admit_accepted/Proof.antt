@@ -1,60 +1,84 @@
+-- `run_admission::admit_accepted` meets its contract: each way through it has its refusal, or what the run relies on.
+-- Assumes nothing.
+use mathlib.Core.Path.{refl}
 use borrow.Author.Needs.{needs}
+use Rattle.admission.specs.JudgedLaws.{surveyed}
+use Rattle.run_admission.specs.RunAdmittedLaws.{odd-bad, long-bad, heard-refused, length-refused, pair-refused, all-admitted}
 use Rattle.run_admission.proofs.admit_accepted.Statement.{statement}
 use Rattle.run_admission.proofs.admit_accepted.Tie as tie
-use Rattle.run_admission.proofs.admit_accepted.Reads as reads
-use Rattle.run_admission.proofs.admit_accepted.Lts as lts
-use Rattle.admission.proofs.bad_offset.Reads as bad-offset-reads
-use Rattle.pairs.proofs.next_hops.Reads as next-hops-reads
-use Rattle.run_admission.proofs.refused.Reads as refused-reads
-use Rattle.run_admission.proofs.schedule.walk_schedule.Reads as walk-schedule-reads
 
--- src/lib.rt:48:14
 next-hops-requires : tie.Need-next-hops-requires
 next-hops-requires c κs = search needs
 
--- src/lib.rt:49:9
 bad-offset-requires : tie.Need-bad-offset-requires
 bad-offset-requires c κs = search needs
 
--- src/lib.rt:51:9
 refused-requires : tie.Need-refused-requires
 refused-requires c κs = search needs
 
--- src/lib.rt:51:9
 returns : tie.Need-returns
-returns c = ?
+returns c sums m =
+    let at-found = c .before .before in
+    let at-nexts = at-found .before .before in
+    let p = at-nexts .before .before .before .before .pre in
+    let y = surveyed (p .0) (p .1) (at-nexts .next-hops .ensures) (at-found .bad-offset .ensures) in
+    heard-refused y _ sums m (c .before .if1 .taken) (c .refused .ensures)
 
--- src/lib.rt:55:9
 refused-requires-2 : tie.Need-refused-requires-2
 refused-requires-2 c κs = search needs
 
--- src/lib.rt:55:9
 returns-2 : tie.Need-returns-2
-returns-2 c = ?
+returns-2 c sums m =
+    let at-valid = c .before .before in
+    let at-found = at-valid .before in
+    let at-nexts = at-found .before .before in
+    let p = at-nexts .before .before .before .before .pre in
+    let y = surveyed (p .0) (p .1) (at-nexts .next-hops .ensures) (at-found .bad-offset .ensures) in
+    length-refused y _ sums m (at-valid .if1 .left) (odd-bad _ (c .before .if2 .taken)) (c .refused2 .ensures)
 
--- src/lib.rt:58:9
 refused-requires-3 : tie.Need-refused-requires-3
 refused-requires-3 c κs = search needs
 
--- src/lib.rt:58:9
 returns-3 : tie.Need-returns-3
-returns-3 c = ?
+returns-3 c sums m =
+    let at-valid = c .before .before .before in
+    let at-found = at-valid .before in
+    let at-nexts = at-found .before .before in
+    let p = at-nexts .before .before .before .before .pre in
+    let y = surveyed (p .0) (p .1) (at-nexts .next-hops .ensures) (at-found .bad-offset .ensures) in
+    length-refused y _ sums m (at-valid .if1 .left) (long-bad _ (c .before .if3 .taken)) (c .refused3 .ensures)
 
--- src/lib.rt:60:9
 walk-schedule-requires : tie.Need-walk-schedule-requires
 walk-schedule-requires c κs = search needs
 
--- src/lib.rt:62:9
 refused-requires-4 : tie.Need-refused-requires-4
 refused-requires-4 c κs = search needs
 
--- src/lib.rt:62:9
 returns-4 : tie.Need-returns-4
-returns-4 c = ?
+returns-4 c sums m =
+    let at-walk = c .before .before .before in
+    let at-short = at-walk .before .before in
+    let at-even = at-short .before in
+    let at-valid = at-even .before in
+    let at-found = at-valid .before in
+    let at-nexts = at-found .before .before in
+    let p = at-nexts .before .before .before .before .pre in
+    let y = surveyed (p .0) (p .1) (at-nexts .next-hops .ensures) (at-found .bad-offset .ensures) in
+    pair-refused y _ sums m (at-valid .if1 .left) (at-even .if2 .left) (at-short .if3 .left) (at-walk .walk-schedule .ensures)
+    (c .before .if4 .taken) (c .refused4 .ensures)
 
--- src/lib.rt:40:1
 returns-5 : tie.Need-returns-5
-returns-5 c = ?
+returns-5 c sums m =
+    let at-walk = c .before .before in
+    let at-short = at-walk .before .before in
+    let at-even = at-short .before in
+    let at-valid = at-even .before in
+    let at-found = at-valid .before in
+    let at-nexts = at-found .before .before in
+    let p = at-nexts .before .before .before .before .pre in
+    let y = surveyed (p .0) (p .1) (at-nexts .next-hops .ensures) (at-found .bad-offset .ensures) in
+    all-admitted y _ sums m (at-valid .if1 .left) (at-even .if2 .left) (at-short .if3 .left) (at-walk .walk-schedule .ensures)
+    (c .if4 .left) refl
 
 pub admit-accepted-spec : {M : Type 1} → statement M
 admit-accepted-spec =

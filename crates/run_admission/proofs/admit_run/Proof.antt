@@ -1,55 +1,57 @@
+-- `run_admission::admit_run` meets its contract: each way through it has its refusal, or is that of an accepted table.
+-- Assumes nothing.
+use mathlib.Core.Path.{sym, _∙_}
 use borrow.Author.Needs.{needs}
+use Rattle.laws.specs.AnswerLaws.{run-refused-length, run-refused-sums, run-refused-table}
+use Rattle.reader.specs.ReadingLaws.{reading-accepted, reading-refused}
+use Rattle.run_admission.specs.RunAdmittedLaws.{admitted-not}
 use Rattle.run_admission.proofs.admit_run.Statement.{statement}
 use Rattle.run_admission.proofs.admit_run.Tie as tie
-use Rattle.run_admission.proofs.admit_run.Reads as reads
-use Rattle.run_admission.proofs.admit_run.Lts as lts
-use Rattle.reader.proofs.read.Reads as read-reads
-use Rattle.run_admission.proofs.admit_accepted.Reads as admit-accepted-reads
-use Rattle.run_admission.proofs.refused.Reads as refused-reads
 
--- src/lib.rt:79:9
 refused-requires : tie.Need-refused-requires
 refused-requires c κs = search needs
 
--- src/lib.rt:79:9
 returns : tie.Need-returns
-returns c = ?
+returns c = admitted-not (run-refused-length _ _ _ _ (c .before .if1 .taken)) (c .refused .ensures)
 
--- src/lib.rt:82:9
 refused-requires-2 : tie.Need-refused-requires-2
 refused-requires-2 c κs = search needs
 
--- src/lib.rt:82:9
 returns-2 : tie.Need-returns-2
-returns-2 c = ?
+returns-2 c = admitted-not (run-refused-sums _ _ _ _ (c .before .if2 .taken)) (c .refused2 .ensures)
 
--- src/lib.rt:84:9
 read-requires : tie.Need-read-requires
 read-requires c κs = search needs
 
--- src/lib.rt:85:26
 enum-known-reading : tie.Need-enum-known-reading
 enum-known-reading c = search needs
 
--- src/lib.rt:86:55
 enum-told : tie.Need-enum-told
 enum-told c = search needs
 
--- src/lib.rt:86:9
 admit-accepted-requires : tie.Need-admit-accepted-requires
-admit-accepted-requires c κs = ?
+admit-accepted-requires c κs =
+    let at-told = c .before in
+    let at-read = at-told .before .before in
+    (reading-accepted _ (sym (at-told .enum-told .given .1) ∙ at-read .read .ensures), at-read .before .before .if1 .left)
 
--- src/lib.rt:86:9
 returns-3 : tie.Need-returns-3
-returns-3 c = ?
+returns-3 c =
+    let at-read = c .before .before .before .before in
+    c .admit-accepted .ensures _ (at-read .before .if2 .left)
 
--- src/lib.rt:88:5
 refused-requires-3 : tie.Need-refused-requires-3
 refused-requires-3 c κs = search needs
 
--- src/lib.rt:71:1
 returns-4 : tie.Need-returns-4
-returns-4 c = ?
+returns-4 c =
+    let at-known = c .before .before in
+    let at-read = at-known .before .before in
+    let at-lengths = at-read .before in
+    admitted-not
+    (run-refused-table _ _ _ _ (at-lengths .before .if1 .left) (at-lengths .if2 .left) _
+    (reading-refused _ _ _ (sym (at-known .reading .given .1) ∙ at-read .read .ensures)))
+    (c .refused3 .ensures)
 
 pub admit-run-spec : {M : Type 1} → statement M
 admit-run-spec =
