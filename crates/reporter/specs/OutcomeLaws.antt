@@ -26,7 +26,8 @@ use Rattle.laws.specs.PathLaws.{place-absent, place-nil}
 use Rattle.laws.specs.GreedyLaws.{is-none}
 use Rattle.ring.specs.Ring.{ringIn}
 use Rattle.ring.specs.FollowLaws.{ring-agrees}
-use Rattle.reporter.specs.Showing.{shownRow, isBetween, countBetween, stuckMarks, nextFrom, nextNumbers, shownNext, shownRing, shownReport}
+use Rattle.report_rows.specs.ShownRows.{shownRow}
+use Rattle.reporter.specs.Showing.{isBetween, countBetween, stuckMarks, nextFrom, nextNumbers, shownNext, shownRing, shownReport}
 use Rattle.reporter.specs.Outcome.{Outcome, markOf, outcomeRow, stuckOf, ringOf, outcomeReport, Fair, Own, Tells}
 
 -- what a mark says

@@ -25,7 +25,9 @@ use Rattle.answer.specs.Meaning as says
 use Rattle.answer.specs.MeaningLaws.{answer-tells}
 use Rattle.ring.specs.Ring.{Ringed, nextIn, ringIn}
 use Rattle.ring.specs.FollowLaws.{ring-unmarked}
-use Rattle.reporter.specs.Showing.{countBetween, isBetween, nextNumbers, shownReport, shownRing, shownRow, stuckMarks}
+use Rattle.report_rows.specs.ShownRows.{shownRow, shownRows}
+use Rattle.report_rows.specs.ShownRowLaws.{rows-whole}
+use Rattle.reporter.specs.Showing.{countBetween, isBetween, nextNumbers, shownReport, shownRing, stuckMarks}
 
 -- the answer, the rows and the ring, where a call is refused or else finds a report
 pub record Reported (refusal : Option Refusal) (found : Report) (lentRows lentRing : List ℕ) (answer : Answer) (rowsNow ringNow : List ℕ) : Type 0 where
@@ -117,7 +119,7 @@ ring-none marks next {size} e q =
 -- the report of marks and records
 module _ (t marks shown : List ℕ) (stages : ℕ) (rows ring : List ℕ) (long : length rows ≡ 1024) (many : length ring ≡ 64) where
   pub reported-shown : {v : Verdict} {a b l count : ℕ} {rowsNow ringNow : List ℕ}
-      → rowsNow ≡ blocks (shownRow t marks shown) 64
+      → rowsNow ≡ shownRows t marks shown rows
       → Ringed (stuckMarks marks) (nextNumbers t (stuckMarks marks) shown) (length ring) count ringNow
       → Found v count
       → a ≡ countBetween 0 253 marks
@@ -129,6 +131,6 @@ module _ (t marks shown : List ℕ) (stages : ℕ) (rows ring : List ℕ) (long 
   reported-shown r g f x y z = let well = lent-well rows ring long many in record {
     verdict = f .said ∙ ap verdictOf (g .count) ∙ rw well;
     numbers = rw (well, f .length ∙ g .count, x, y, z);
-    rows = r ∙ rw well;
+    rows = r ∙ rows-whole t marks shown rows long ∙ rw well;
     ring = g .ring ∙ rw (well, many);
   }

@@ -3,22 +3,15 @@
 -- 65,535 for none.
 use Prim.Native.Nat.{ℕ}
 use mathlib.Core.Bool.{Bool, true, false, not, _&&_}
-use mathlib.Core.List.{List, [], _∷_}
+use mathlib.Core.List.{List}
 use lib.ListN.{getD, length}
 use lib.Dec.{eqb}
 use Rattle.lists.specs.Search.{countBelow, outside}
 use Rattle.lists.specs.Fill.{blocks, padded, tabulate}
-use Rattle.rules.specs.Table.{longest, nextHop, pathAt, rankAt}
-use Rattle.rules.specs.Report.{Report, rowBytes}
+use Rattle.rules.specs.Table.{longest, nextHop, pathAt}
+use Rattle.rules.specs.Report.{Report}
 use Rattle.ring.specs.Ring.{ringIn}
-
--- the row of a record that a vertex shows
-abbrev recordRow : List ℕ → ℕ → ℕ → List ℕ
-recordRow t mark i = rowBytes mark (rankAt t i) (pathAt t i)
-
--- "Row 0: stage 0, rank 0, hops 0, vertex 0, then 255"; any other vertex's row shows its record
-unfoldable pub shownRow : List ℕ → List ℕ → List ℕ → ℕ → List ℕ
-shownRow t marks shown v = elim (eqb v 0) [ true ↦ rowBytes 0 0 (0 ∷ []) | false ↦ recordRow t (getD marks v 254) (getD shown v 65535) ]
+use Rattle.report_rows.specs.ShownRows.{shownRow}
 
 -- the vertices but 0 whose marks are low to high
 unfoldable pub isBetween : ℕ → ℕ → List ℕ → ℕ → Bool

@@ -18,7 +18,7 @@ use Rattle.lists.specs.Tests.{by-equal, by-less, is-inside, below-out, above-ou
 use Rattle.rules.specs.Table.{recordAt, hopsOf, nextHop, pathOf, rankAt, pathAt}
 use Rattle.rules.specs.Report.{rowBytes}
 use Rattle.laws.specs.ReportLaws.{row-bytes-length}
-use Rattle.reporter.specs.Showing.{isBetween, nextFrom, shownNext, shownRow}
+use Rattle.reporter.specs.Showing.{isBetween, nextFrom, shownNext}
 
 -- the count that has come to v; b says whether the mark there is outside
 module _ (low high : ℕ) (marks : List ℕ) where
@@ -80,96 +80,3 @@ module _ (t : List ℕ) where
       → n ≡ shownNext t stuck shown v
   unfolding shownNext
   next-shown stuck shown v n l m h q = q ∙ ap (nextFrom t (getD stuck v false)) (getD-within shown v 0 65535 (omega arith))
-
--- a row written to the 16 bytes of its part
-module _ (mark rank hops : ℕ) where
-  abbrev pub threeSet : List ℕ → List ℕ
-  threeSet l = set (set (set l 0 mark) 1 rank) 2 hops
-
-  pub three-length : (l : List ℕ) → length l ≡ 16 → length (threeSet l) ≡ 16
-  three-length l e = length-set (set (set l 0 mark) 1 rank) 2 hops ∙ length-set (set l 0 mark) 1 rank ∙ length-set l 0 mark ∙ e
-
-  pub row-written : (p ys l : List ℕ)
-      → hops ≡ pred (length p)
-      → length l ≡ 16
-      → ys ≡ padded (length (take (length (threeSet l) - 3) (drop 3 (threeSet l)))) 255 p
-      → take 3 (threeSet l) ++ (ys ++ drop (length (threeSet l) - 3) (drop 3 (threeSet l))) ≡ rowBytes mark rank p
-  unfolding rowBytes
-  row-written p ys [] h e f = absurd (omega arith)
-  row-written p ys (a ∷ []) h e f = absurd (omega arith)
-  row-written p ys (a ∷ b ∷ []) h e f = absurd (omega arith)
-  row-written p ys (a ∷ b ∷ c ∷ l) h e f =
-      let n : suc (suc (suc (length l))) - 3 ≡ 13 = omega arith in
-      let short : length l ≤ 13 = omega arith in
-      let long : length (take (suc (suc (suc (length l))) - 3) l) ≡ 13 = rw n (length-take 13 l ∙ omega arith) in
-      let tail : ys ++ drop (suc (suc (suc (length l))) - 3) l ≡ padded 13 255 p
-      = rw (n, drop-of-length-le l short) (append-nil ys ∙ f ∙ ap (λ (k : ℕ). padded k 255 p) long) in
-      ap (λ (x : List ℕ). mark ∷ rank ∷ hops ∷ x) tail ∙ ap (λ (k : ℕ). mark ∷ rank ∷ k ∷ padded 13 255 p) h
-
--- the row that a vertex shows
-module _ (t marks shown : List ℕ) where
-  pub shown-length : (v : ℕ) → length (shownRow t marks shown v) ≡ 16
-  unfolding shownRow
-  shown-length v =
-      by-equal v 0
-      (λ q. rw (eq-eqb v 0 q, shownRow) (row-bytes-length _ _ _))
-      (λ q. rw (ne-eqb v 0 q, shownRow) (row-bytes-length _ _ _))
-
-  pub shown-origin : rowBytes 0 0 (0 ∷ []) ≡ shownRow t marks shown 0
-  unfolding shownRow
-  shown-origin = refl
-
-  pub shown-record : (v : ℕ)
-      → length marks ≡ 64
-      → length shown ≡ 64
-      → 1 ≤ v
-      → v < 64
-      → (i rank : ℕ) (p ys : List ℕ)
-      → i ≡ getD shown v 0
-      → rank ≡ rankAt t i
-      → p ≡ pathAt t i
-      → ys ≡ rowBytes (getD marks v 0) rank p
-      → ys ≡ shownRow t marks shown v
-  unfolding shownRow
-  shown-record v l m a h i rank p ys e f g q =
-      let z : i ≡ getD shown v 65535 = e ∙ getD-within shown v 0 65535 (omega arith) in
-      q ∙ rw (ne-eqb v 0 (λ r. omega arith), shownRow, f, g, ← z, getD-within marks v 0 254 (omega arith))
-
--- a path ends with its record at the latest
-pub path-most : (t : List ℕ) (i : ℕ) → length (pathAt t i) ≤ 256
-unfolding pathOf recordAt
-path-most t i =
-    omega (arith, length-take (suc (hopsOf (recordAt t i))) (drop 2 (recordAt t i)), length-drop 2 (recordAt t i), length-take 16 (drop (16 * i) t))
-
-module _ (t marks shown rows : List ℕ) (long : length rows ≡ 1024) (ys : List ℕ) where
-  -- the rows after the first
-  pub first-written : ys ≡ rowBytes 0 0 (0 ∷ [])
-      → (length (ys ++ drop 16 rows) ≡ 1024) × (take 16 (ys ++ drop 16 rows) ≡ blocks (shownRow t marks shown) 1)
-  first-written e =
-      let f = e ∙ shown-origin t marks shown in (
-        length-append ys (drop 16 rows) ∙ omega (arith, length-drop 16 rows, ap length f, shown-length t marks shown 0),
-        block-first (shownRow t marks shown) 16 (shown-length t marks shown) rows ys (omega arith) f,
-      )
-
-  -- and after the next
-  abbrev pub rowWritten : ℕ → List ℕ
-  rowWritten at = take at rows ++ (ys ++ drop (at + 16 - at) (drop at rows))
-
-  pub next-written : (v : ℕ)
-      → v < 64
-      → take (v * 16) rows ≡ blocks (shownRow t marks shown) v
-      → ys ≡ shownRow t marks shown v
-      → (length (rowWritten (v * 16)) ≡ 1024) × (take ((v + 1) * 16) (rowWritten (v * 16)) ≡ blocks (shownRow t marks shown) (v + 1))
-  next-written v h come e = (
-    block-length (shownRow t marks shown) 16 (shown-length t marks shown) rows ys (v * 16) v (omega arith) e ∙ long,
-    block-more (shownRow t marks shown) 16 (shown-length t marks shown) rows ys (v * 16) v (omega arith) e ((v + 1) * 16) (omega arith) come,
-  )
-
--- all rows
-pub all-written : (t marks shown rows : List ℕ) (v : ℕ)
-    → length rows ≡ 1024
-    → v ≡ 64
-    → take (v * 16) rows ≡ blocks (shownRow t marks shown) v
-    → rows ≡ blocks (shownRow t marks shown) 64
-all-written t marks shown rows v l e come =
-    sym (take-all (v * 16) rows (omega arith)) ∙ come ∙ ap (blocks (shownRow t marks shown)) e

@@ -1,21 +1,19 @@
 // The report that a mark and a record number for each vertex show, for any bytes: the answer, a row for each vertex and the ring.
 mod counts;
 mod followers;
-mod rows;
 
 ghost use mathlib.Core.Path.{_≡_};
 ghost use Rattle.reporter.specs.Showing.{shownReport};
 ghost use Rattle.reporter.specs.Reported.{Found, Reported, lentRefusal, refusalAnswer};
 use crate::counts::count_between;
 use crate::followers::write_ring;
-use crate::rows::write_rows;
 use answer::Answer;
 use answer::Verdict;
+use report_rows::ROWS;
+use report_rows::write_rows;
 use table_facts::longest_hops;
 
-// The lengths of the lent buffers: 16 bytes for each of 64 vertices, and one.
-pub const ROWS: usize = 1024;
-
+// The length of a lent ring: a byte for each vertex.
 pub const RING: usize = 64;
 
 // The refusal of a buffer of another length.
@@ -69,7 +67,7 @@ pub fn report(
     if ring.len() != RING {
         return refused(OTHER_LENGTH, 0);
     }
-    write_rows(table, &marks, &shown, rows);
+    write_rows(table, marks, shown, rows);
     let waiting = count_between(STUCK, STUCK, &marks);
     let count = write_ring(table, &marks, &shown, waiting, ring);
     Answer {

@@ -1,14 +1,18 @@
-// The rows: each vertex writes only its own 16 bytes.
+// The rows that a mark and a record number for each vertex show, for any bytes: each vertex writes only its own 16 bytes.
 ghost use mathlib.Core.Path.{_≡_};
 ghost use Prim.Native.Nat.{_≤_, pred};
 ghost use lib.ListN.{length};
 ghost use Rattle.lists.specs.Fill.{blocks};
 ghost use Rattle.rules.specs.Report.{rowBytes};
-ghost use Rattle.reporter.specs.Showing.{shownRow};
-use crate::VERTICES;
+ghost use Rattle.report_rows.specs.ShownRows.{shownRow, shownRows};
 use record_fields::path_at;
 use record_fields::rank_at;
 use slices::fill_padded;
+
+// The length of all rows: 16 bytes for each of 64 vertices.
+pub const ROWS: usize = 1024;
+
+const VERTICES: usize = 64;
 
 // How many bytes a row has.
 const ROW: usize = 16;
@@ -37,7 +41,7 @@ fn write_row(part: &mut [u8], mark: u8, rank: u8, path: &[u8])
 }
 
 // Writes all rows: that of vertex 0, whose path is no record, then those that show their records.
-pub(crate) fn write_rows(table: &[u8], marks: &[u8], shown: &[u16], rows: &mut [u8])
+fn fill_rows(table: &[u8], marks: &[u8], shown: &[u16], rows: &mut [u8])
     requires { ⌜ (length (now marks) ≡ 64) × (length (now shown) ≡ 64) × (length (now rows) ≡ 1024) ⌝ }
     ensures { λ r. ⌜ now (rows .exit) ≡ blocks (shownRow (now (table .entry)) (now (marks .entry)) (now (shown .entry))) 64 ⌝ }
 {
@@ -55,4 +59,14 @@ pub(crate) fn write_rows(table: &[u8], marks: &[u8], shown: &[u16], rows: &mut [
         );
         v += 1;
     }
+}
+
+// Writes the rows where there is room for just them; other bytes stay as they are.
+pub fn write_rows(table: &[u8], marks: [u8; 64], shown: [u16; 64], rows: &mut [u8])
+    ensures { λ r. ⌜ now (rows .exit) ≡ shownRows (now (table .entry)) marks shown (now (rows .entry)) ⌝ }
+{
+    if rows.len() != ROWS {
+        return;
+    }
+    fill_rows(table, &marks, &shown, rows);
 }

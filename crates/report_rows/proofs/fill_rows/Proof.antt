@@ -1,15 +1,15 @@
--- `reporter::rows::write_rows` meets its contract: the rows below v stand.
+-- `report_rows::fill_rows` meets its contract: the rows below v stand.
 -- Assumes nothing.
 use mathlib.Core.Path.{_≡_, refl, sym, _∙_}
 use Prim.Native.Nat.{_≤_, _-_, _*_}
 use native.Mathlib.Omega.{arith}
 use lib.ListN.{length, take, length-take}
-use Rattle.reporter.specs.ShowingLaws.{first-written, next-written, all-written, path-most, shown-record}
+use Rattle.report_rows.specs.ShownRowLaws.{first-written, next-written, all-written, path-most, shown-record}
 use Rattle.lists.specs.Fill.{blocks}
 use Rattle.lists.specs.Parts.{part-length}
-use Rattle.reporter.specs.Showing.{shownRow}
-use Rattle.reporter.proofs.rows.write_rows.Statement.{statement}
-use Rattle.reporter.proofs.rows.write_rows.Tie as tie
+use Rattle.report_rows.specs.ShownRows.{shownRow}
+use Rattle.report_rows.proofs.fill_rows.Statement.{statement}
+use Rattle.report_rows.proofs.fill_rows.Tie as tie
 
 abbrev Inv-loop : tie.InvT-loop
 Inv-loop table marks shown rows₀ v₀ rows v =
@@ -107,8 +107,8 @@ same-length c =
 returns : tie.Need-returns Inv-loop μ-loop
 returns c = all-written _ _ _ _ _ (c .before .loop .inv .2) (omega arith) (c .before .loop .inv .3)
 
-pub write-rows-spec : {M : Type 1} → statement M
-write-rows-spec =
+pub fill-rows-spec : {M : Type 1} → statement M
+fill-rows-spec =
     tie.close
     (tie.spec Inv-loop μ-loop slice-relend-prefix-write-row slice-aggregate-write-row slice-aggregate-write-row-2
     write-row-requires loop-holds mul-at add-end mul-i shared-slice-read-i cast-i sub-write-row part-write-row-start

@@ -1,13 +1,13 @@
--- `reporter::rows::write_row` meets its contract: three bytes, then the vertices.
+-- `report_rows::write_row` meets its contract: three bytes, then the vertices.
 -- Assumes nothing.
 use mathlib.Core.Path.{ap, _∙_, sym}
 use native.Mathlib.Omega.{arith}
 use borrow.Author.Needs.{needs}
 use lib.ListN.{length}
 use Rattle.laws.specs.ReportLaws.{row-bytes-length}
-use Rattle.reporter.specs.ShowingLaws.{three-length, row-written}
-use Rattle.reporter.proofs.rows.write_row.Statement.{statement}
-use Rattle.reporter.proofs.rows.write_row.Tie as tie
+use Rattle.report_rows.specs.ShownRowLaws.{three-length, row-written}
+use Rattle.report_rows.proofs.write_row.Statement.{statement}
+use Rattle.report_rows.proofs.write_row.Tie as tie
 
 slice-write-part : tie.Need-slice-write-part
 slice-write-part c = search needs
