@@ -1,12 +1,12 @@
--- `check_lines::put_row` meets its contract: 254 is absent; otherwise four pieces behind each other.
+-- `row_lines::put_row` meets its contract: 254 is absent; otherwise four pieces behind each other.
 -- Assumes nothing.
 use native.Mathlib.Omega.{arith}
 use borrow.Author.Needs.{needs}
 use Rattle.rules.specs.Text.{codes}
 use Rattle.laws.specs.TextLaws.{row-absent, row-present}
 use Rattle.text_writing.specs.LayLaws.{laid-then, laid-nothing, laid-as, laid-length}
-use Rattle.check_lines.proofs.put_row.Statement.{statement}
-use Rattle.check_lines.proofs.put_row.Tie as tie
+use Rattle.row_lines.proofs.put_row.Statement.{statement}
+use Rattle.row_lines.proofs.put_row.Tie as tie
 
 byte-at-requires : tie.Need-byte-at-requires
 byte-at-requires c κs = search needs

@@ -1,9 +1,9 @@
--- `check_lines::path_in` meets its contract: the part from byte 3 on is the path.
+-- `row_lines::path_in` meets its contract: the part from byte 3 on is the path.
 -- Assumes nothing.
 use borrow.Author.Needs.{needs}
 use Rattle.laws.specs.TextLaws.{row-path-part, row-path-short}
-use Rattle.check_lines.proofs.path_in.Statement.{statement}
-use Rattle.check_lines.proofs.path_in.Tie as tie
+use Rattle.row_lines.proofs.path_in.Statement.{statement}
+use Rattle.row_lines.proofs.path_in.Tie as tie
 
 slice-aggregate-result : tie.Need-slice-aggregate-result
 slice-aggregate-result c = search needs

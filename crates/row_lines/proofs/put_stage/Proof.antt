@@ -1,12 +1,12 @@
--- `check_lines::put_stage` meets its contract: 255 is stuck, another byte a stage.
+-- `row_lines::put_stage` meets its contract: 255 is stuck, another byte a stage.
 -- Assumes nothing.
 use native.Mathlib.Omega.{arith}
 use borrow.Author.Needs.{needs}
 use Rattle.rules.specs.Text.{codes, labelled}
 use Rattle.laws.specs.TextLaws.{stage-stuck, stage-some}
 use Rattle.text_writing.specs.LayLaws.{laid-as, laid-length}
-use Rattle.check_lines.proofs.put_stage.Statement.{statement}
-use Rattle.check_lines.proofs.put_stage.Tie as tie
+use Rattle.row_lines.proofs.put_stage.Statement.{statement}
+use Rattle.row_lines.proofs.put_stage.Tie as tie
 
 byte-at-requires : tie.Need-byte-at-requires
 byte-at-requires c κs = search needs

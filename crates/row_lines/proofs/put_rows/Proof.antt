@@ -1,4 +1,4 @@
--- `check_lines::put_rows` meets its contract: the lines of the vertices up to v are laid.
+-- `row_lines::put_rows` meets its contract: the lines of the vertices up to v are laid.
 -- Assumes nothing.
 use mathlib.Core.Path.{_≡_, ap}
 use Prim.Native.Nat.{_≤_, _-_}
@@ -8,8 +8,8 @@ use Rattle.rules.specs.Text.{rowLines}
 use Rattle.laws.specs.TextLaws.{rows-none, rows-more}
 use Rattle.text_writing.specs.Lay.{Laid}
 use Rattle.text_writing.specs.LayLaws.{laid-then, laid-nothing, laid-as, laid-length}
-use Rattle.check_lines.proofs.put_rows.Statement.{statement}
-use Rattle.check_lines.proofs.put_rows.Tie as tie
+use Rattle.row_lines.proofs.put_rows.Statement.{statement}
+use Rattle.row_lines.proofs.put_rows.Tie as tie
 
 abbrev Inv-loop : tie.InvT-loop
 Inv-loop text₀ at rows next₀ v₀ text next v = (v ≤ 63) × Laid at (rowLines rows v) text₀ text next
