@@ -1,7 +1,8 @@
 // The rows of the published examples as schedules, a row to a line, each the bytes of its definition.
 ghost use mathlib.Core.Path.{_≡_};
 ghost use mathlib.Core.List.{[], _∷_};
-ghost use Rattle.theorems.specs.Published.{disagreeTwoFirst, disagreeOneFirst, badGadgetRounds, table4, edgeTwoFirst, bleedinRound, diSafeGreeRows, pairsOfRows};
+ghost use Rattle.theorems.specs.Published.{pairsOfRows, disagreeTwoFirst, disagreeOneFirst, badGadgetRounds};
+ghost use Rattle.theorems.specs.Published.{table4, edgeTwoFirst, bleedinRound, diSafeGreeRows};
 
 // DISAGREE: the direct paths, then 2 hears 1 and 1 hears 2.
 pub fn disagree_two_first() -> [u8; 8]

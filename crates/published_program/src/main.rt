@@ -2,9 +2,6 @@
 // them.
 use check_text::check_text;
 use libc::STDOUT_FILENO;
-use published::lines::part;
-use published::lines::run_from;
-use published::lines::title_text;
 use published::rows::bad_gadget_rounds;
 use published::rows::bleedin_edge_round;
 use published::rows::di_safe_gree_rows;
@@ -18,6 +15,9 @@ use published::tables::bad_gadget;
 use published::tables::bleedin_edge;
 use published::tables::di_safe_gree;
 use published::tables::disagree;
+use published_lines::part;
+use published_lines::run_from;
+use published_lines::title_text;
 use table_facts::PAIRS;
 
 // So many bytes hold every text of a check.

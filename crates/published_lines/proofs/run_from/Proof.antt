@@ -1,10 +1,10 @@
--- `published::lines::run_from` meets its contract: what the run's answer prints is the text of the run.
+-- `published_lines::run_from` meets its contract: what the run's answer prints is the text of the run.
 -- Assumes nothing.
 use borrow.Author.Needs.{needs}
 use Rattle.text_writing.specs.LayLaws.{laid-as}
 use Rattle.run_text.specs.PrintedRunLaws.{printed-run}
-use Rattle.published.proofs.lines.run_from.Statement.{statement}
-use Rattle.published.proofs.lines.run_from.Tie as tie
+use Rattle.published_lines.proofs.run_from.Statement.{statement}
+use Rattle.published_lines.proofs.run_from.Tie as tie
 
 slice-aggregate-run : tie.Need-slice-aggregate-run
 slice-aggregate-run c = search needs

@@ -1,10 +1,10 @@
--- `published::lines::title_text` meets its contract: three pieces behind each other.
+-- `published_lines::title_text` meets its contract: three pieces behind each other.
 -- Assumes nothing.
 use borrow.Author.Needs.{needs}
 use Rattle.rules.specs.Text.{codes}
 use Rattle.text_writing.specs.LayLaws.{laid-then, laid-length}
-use Rattle.published.proofs.lines.title_text.Statement.{statement}
-use Rattle.published.proofs.lines.title_text.Tie as tie
+use Rattle.published_lines.proofs.title_text.Statement.{statement}
+use Rattle.published_lines.proofs.title_text.Tie as tie
 
 put-requires : tie.Need-put-requires
 put-requires c κs = search needs

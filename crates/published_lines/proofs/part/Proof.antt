@@ -1,9 +1,9 @@
--- `published::lines::part` meets its contract: the part ends with the bytes at the latest.
+-- `published_lines::part` meets its contract: the part ends with the bytes at the latest.
 -- Assumes nothing.
 use borrow.Author.Needs.{needs}
-use Rattle.published.specs.StateLaws.{part-past, part-here}
-use Rattle.published.proofs.lines.part.Statement.{statement}
-use Rattle.published.proofs.lines.part.Tie as tie
+use Rattle.published_lines.specs.PartLaws.{part-past, part-here}
+use Rattle.published_lines.proofs.part.Statement.{statement}
+use Rattle.published_lines.proofs.part.Tie as tie
 
 slice-aggregate-result : tie.Need-slice-aggregate-result
 slice-aggregate-result c = search needs

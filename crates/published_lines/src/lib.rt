@@ -4,7 +4,7 @@ ghost use mathlib.Core.List.{_++_};
 ghost use lib.ListN.{take, drop};
 ghost use Rattle.rules.specs.Text.{codes, spaced};
 ghost use Rattle.text_writing.specs.Lay.{Laid};
-ghost use Rattle.published.specs.RanFrom.{RanFrom};
+ghost use Rattle.published_lines.specs.RanFrom.{RanFrom};
 use machine::choices;
 use machine::run;
 use run_lines::print_run;
