@@ -1,18 +1,18 @@
--- `published_program::show_example` meets its contract: a line begins no later than the byte that is looked at.
+-- `published_program::show_plan` meets its contract: a line begins no later than the byte that is looked at.
 -- Assumes nothing.
 use Prim.Native.Nat.{_≤_, _-_}
 use mathlib.Core.Logic.{⊎-elim}
 use native.Mathlib.Omega.{arith}
 use borrow.Author.Needs.{needs}
 use lib.ListN.{length}
-use Rattle.published_program.proofs.show_example.Statement.{statement}
-use Rattle.published_program.proofs.show_example.Tie as tie
+use Rattle.published_program.proofs.show_plan.Statement.{statement}
+use Rattle.published_program.proofs.show_plan.Tie as tie
 
 abbrev Inv-loop : tie.InvT-loop
-Inv-loop plan table rows before₀ left₀ first₀ k₀ before left first k = (first ≤ k) × (k ≤ length plan)
+Inv-loop plan tables rows before₀ left₀ first₀ k₀ before left first k = (first ≤ k) × (k ≤ length plan)
 
 abbrev μ-loop : tie.MeasureT-loop
-μ-loop plan table rows before₀ left₀ first₀ k₀ before left first k = length plan - k
+μ-loop plan tables rows before₀ left₀ first₀ k₀ before left first k = length plan - k
 
 nothing-heard-requires : tie.Need-nothing-heard-requires Inv-loop μ-loop
 nothing-heard-requires c κs = search needs
@@ -53,8 +53,8 @@ loop-again c = (⊎-elim (λ w. omega arith) (λ w. omega arith) (c .if1 .came),
 returns : tie.Need-returns Inv-loop μ-loop
 returns c = search needs
 
-pub show-example-spec : {M : Type 1} → statement M
-show-example-spec =
+pub show-plan-spec : {M : Type 1} → statement M
+show-plan-spec =
     tie.close
     (tie.spec Inv-loop μ-loop nothing-heard-requires loop-holds shared-slice-read-if1 sub-part part-requires byte-at-requires start-of-requires
     show-line-requires add-first add-k loop-less loop-again returns)
