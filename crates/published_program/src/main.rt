@@ -7,57 +7,17 @@
 // - the first record of its table among those of all tables, and how many records it has;
 // - the first byte of its pairs among those of all rows, and how many bytes they are.
 // None of these numbers is 10, which ends a line.
-use check_text::check_text;
-use libc::STDOUT_FILENO;
 use published::rows::all_rows;
 use published::states::row_three;
-use published::states::some_step_changes;
 use published::tables::all_tables;
 use published_lines::part;
-use published_lines::run_from;
-use published_lines::title_text;
+use published_show::show_check;
+use published_show::show_rest;
+use published_show::show_run;
+use published_show::show_title;
 use record_fields::RECORD_BYTES;
 use slices::byte_at;
 use table_facts::PAIRS;
-
-// So many bytes hold every text that is shown here.
-const TEXT_BYTES: usize = 2048;
-
-fn show_text(text: [u8; TEXT_BYTES], length: usize) {
-    io::write_all(STDOUT_FILENO, part(&text, 0, length));
-}
-
-// The check of a table.
-fn show_check(table: &[u8]) {
-    let mut text = [0; TEXT_BYTES];
-    let length = check_text(table, &mut text);
-    show_text(text, length);
-}
-
-// A title with its pairs, listener first.
-fn show_title(title: &[u8], pairs: &[u8]) {
-    let mut text = [0; TEXT_BYTES];
-    let length = title_text(title, pairs, &mut text);
-    show_text(text, length);
-}
-
-// The run of the pairs from a state, one by one; answers the state that it leaves.
-fn show_run(table: &[u8], start: [u8; PAIRS], pairs: &[u8]) -> [u8; PAIRS] {
-    let mut heard = start;
-    let mut text = [0; TEXT_BYTES];
-    let length = run_from(table, &mut heard, pairs, &mut text);
-    show_text(text, length);
-    heard
-}
-
-// Whether the state rests.
-fn show_rest(table: &[u8], heard: [u8; PAIRS]) {
-    if some_step_changes(table, heard) {
-        io::write_all(STDOUT_FILENO, b"a step changes this state\n");
-        return;
-    }
-    io::write_all(STDOUT_FILENO, b"no step changes this state\n");
-}
 
 // What a line shows below its title; answers the state that it leaves.
 fn show_below(what: u8, table: &[u8], start: [u8; PAIRS], pairs: &[u8]) -> [u8; PAIRS] {
