@@ -11,11 +11,11 @@ use published::rows::all_rows;
 use published::states::row_three;
 use published::tables::all_tables;
 use published_lines::part;
+use published_lines::records;
 use published_show::show_check;
 use published_show::show_rest;
 use published_show::show_run;
 use published_show::show_title;
-use record_fields::RECORD_BYTES;
 use slices::byte_at;
 use table_facts::PAIRS;
 
@@ -36,16 +36,11 @@ fn show_below(what: u8, table: &[u8], start: [u8; PAIRS], pairs: &[u8]) -> [u8; 
     }
 }
 
-fn table_of<'a>(tables: &'a [u8], line: &[u8]) -> &'a [u8] {
-    let first = byte_at(line, 2) as usize;
-    let count = byte_at(line, 3) as usize;
-    part(tables, first * RECORD_BYTES, count * RECORD_BYTES)
-}
-
 fn show_line(line: &[u8], tables: &[u8], rows: &[u8], start: [u8; PAIRS]) -> [u8; PAIRS] {
+    let table = records(tables, byte_at(line, 2), byte_at(line, 3));
     let pairs = part(rows, byte_at(line, 4) as usize, byte_at(line, 5) as usize);
     show_title(part(line, 6, line.len()), pairs);
-    show_below(byte_at(line, 1), table_of(tables, line), start, pairs)
+    show_below(byte_at(line, 1), table, start, pairs)
 }
 
 fn nothing_heard() -> [u8; PAIRS] {
