@@ -1,4 +1,4 @@
-// A part of some bytes or records, and a row's printed text: its title with the activated pairs, and the run that it is.
+// A part of some bytes or records, and a row's printed text: its title with its pairs, and the run that it is.
 ghost use mathlib.Core.Path.{_≡_};
 ghost use Prim.Native.Nat.{_*_};
 ghost use mathlib.Core.List.{_++_};
