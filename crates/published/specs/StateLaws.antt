@@ -1,27 +1,14 @@
--- Laws of a part of some bytes, and of the search for a step that changes a heard state.
-use Prim.Native.Nat.{ℕ, suc, _<_, _≤_, _+_, _-_, _/_, _%_, min}
+-- Laws of the search for a step that changes a heard state.
+use Prim.Native.Nat.{ℕ, suc, _<_, _≤_, _+_, _/_, _%_}
 use mathlib.Core.Path.{_≡_, sym, ap, _∙_}
 use mathlib.Core.Bool.{Bool, true, false, not}
-use mathlib.Core.List.{List, []}
+use mathlib.Core.List.{List}
 use native.Mathlib.Omega.{arith}
-use lib.ListN.{length, take, drop, drop-of-length-le}
-use lib.Seq.{take-nil}
-use Rattle.lists.specs.Parts.{part-clipped}
 use Rattle.lists.specs.Search.{anyBelow, same}
 use Rattle.lists.specs.SearchLaws.{any-below, any-below-suc, any-below-zero}
 use Rattle.lists.specs.Tests.{neither}
 use Rattle.rules.specs.Answers.{heardAfterStep}
 use Rattle.theorems.specs.Published.{pairAt, changesAt, someStepChanges}
-
--- a part from past the end is empty, and another ends with the bytes at the latest
-pub part-past : (l : List ℕ) (from count : ℕ) → length l < from → [] ≡ take count (drop from l)
-part-past l from count h = rw (drop-of-length-le l {i = from} (omega arith)) (sym (take-nil count))
-
-pub part-here : (l : List ℕ) (from count some : ℕ)
-    → from ≤ length l
-    → some ≡ min count (length l - from)
-    → take (from + some - from) (drop from l) ≡ take count (drop from l)
-part-here l from count some h e = part-clipped l from count (from + some) (omega arith)
 
 module _ (t heard : List ℕ) (k : ℕ) where
   -- what a step leaves, compared with what was there

@@ -1,5 +1,4 @@
-// The published examples of paper 001: their tables, rows and states, and what the machine makes of them.
-pub mod lines;
+// The published examples of paper 001: their tables, rows and states.
 pub mod rows;
 pub mod states;
 pub mod tables;
