@@ -3,7 +3,7 @@ use mathlib.Core.Path.{_≡_, sym, ap, _∙_}
 use mathlib.Core.Logic.{_≢_}
 use mathlib.Core.Bool.{true, false}
 use mathlib.Core.List.{List}
-use mathlib.Core.Option.{none, some}
+use mathlib.Core.Option.{Option, none, some}
 use Prim.Native.Nat.{ℕ, _/_, _%_, _<_, _≤_}
 use native.Mathlib.Omega.{arith}
 use lib.ListN.{length}
@@ -13,25 +13,33 @@ use borrow.Author.Tests.{lt-ltb, le-ltb}
 use Rattle.lists.specs.Search.{outside}
 use Rattle.lists.specs.Tests.{none≢some, or-left, or-right, neither, is-inside, above-out}
 use Rattle.rules.specs.Table.{pathsOf, present}
+use Rattle.rules.specs.Refusals.{Refusal}
 use Rattle.rules.specs.Run.{pairsIn}
 use Rattle.rules.specs.Answers.{scheduleBad, firstBadPair, runRefusal}
 use Rattle.laws.specs.AnswerLaws.{run-refused-heard, run-refused-schedule, run-refused-pair, run-accepted}
-use Rattle.answer.specs.declared.RunVerdict.{RunVerdict}
-use Rattle.answer.specs.declared.RunVerdict.the-variants.{Accepted, Refused}
+use Rattle.answer.specs.declared.RunAnswer.{RunAnswer}
+use Rattle.answer.specs.declared.RunVerdict.the-variants.{Accepted}
 use Rattle.answer.specs.Moves.{runRefusalIn}
 use Rattle.admission.specs.Judged.{Surveyed}
 use Rattle.admission.specs.JudgedLaws.{survey-shape, survey-rows, survey-valid, survey-bad}
 use Rattle.run_admission.specs.Walk.{Walked}
 use Rattle.run_admission.specs.WalkLaws.{pairs-none, pairs-some}
-use Rattle.run_admission.specs.RunAdmitted.{Ready, RunAdmitted}
+use Rattle.run_admission.specs.RunAdmitted.{refused, RunAdmitted}
 
 -- refused
-pub admitted-not : {t heard s : List ℕ} {sums : List ℤ} {verdict : RunVerdict} {closed : ℕ} {nexts : List (List ℕ)} {n k : ℕ}
+pub admitted-not : {t heard s : List ℕ} {sums : List ℤ} {a : RunAnswer} {nexts : List (List ℕ)} {n k : ℕ}
     → runRefusal t heard s sums ≡ some (record { number = n; place = k })
-    → verdict ≡ Refused n k
-    → RunAdmitted t heard s sums verdict closed nexts
-unfolding runRefusalIn
-admitted-not e q = record { judged = ap runRefusalIn q ∙ sym e; ready = λ z. absurd (none≢some z e); longSums = λ z. absurd (none≢some z e) }
+    → a ≡ refused n k
+    → RunAdmitted t heard s sums a nexts
+unfolding runRefusalIn refused
+admitted-not {a = a} e q =
+    let answerOf : Option Refusal → RunAnswer = λ o. elim o [ none ↦ a | some r ↦ refused (r .number) (r .place) ] in
+    record {
+      judged = ap (λ (x : RunAnswer). runRefusalIn (x .verdict)) q ∙ sym e;
+      zeros = λ r z. q ∙ ap answerOf (sym e ∙ z);
+      ready = λ z. absurd (none≢some z e);
+      longSums = λ z. absurd (none≢some z e);
+    }
 
 -- the schedule's length
 
@@ -52,39 +60,40 @@ module _ (s : List ℕ) where
 
 -- over an accepted table that has been surveyed
 module _ {t heard : List ℕ} {nexts : List (List ℕ)} {at : ℕ} (y : Surveyed t heard nexts at)
-    (s : List ℕ) (sums : List ℤ) (m : length sums ≡ 64) {verdict : RunVerdict} where
+    (s : List ℕ) (sums : List ℤ) (m : length sums ≡ 64) {a : RunAnswer} where
   -- the state is not valid
-  pub heard-refused : {closed : ℕ} → at ≢ 4096 → verdict ≡ Refused 12 at → RunAdmitted t heard s sums verdict closed nexts
+  pub heard-refused : at ≢ 4096 → a ≡ refused 12 at → RunAdmitted t heard s sums a nexts
   heard-refused f q = admitted-not (run-refused-heard t heard s sums (y .long) m (y .accepted) at (survey-bad y f)) q
 
   module _ (valid : at ≡ 4096) where
     -- the schedule has a bad length
-    pub length-refused : {closed : ℕ} → scheduleBad s ≡ true → verdict ≡ Refused 13 0 → RunAdmitted t heard s sums verdict closed nexts
+    pub length-refused : scheduleBad s ≡ true → a ≡ refused 13 0 → RunAdmitted t heard s sums a nexts
     length-refused f q = admitted-not (run-refused-schedule t heard s sums (y .long) m (y .accepted) (survey-valid y valid) f) q
 
     module _ (even : length s % 2 ≡ 0) (short : length s ≤ 32768) {pairs rounds : ℕ} (w : Walked nexts s pairs rounds) where
       -- a pair does not listen
-      pub pair-refused : {closed : ℕ} → pairs ≢ length s / 2 → verdict ≡ Refused 14 pairs → RunAdmitted t heard s sums verdict closed nexts
+      pub pair-refused : pairs ≢ length s / 2 → a ≡ refused 14 pairs → RunAdmitted t heard s sums a nexts
       pair-refused f q =
           admitted-not (run-refused-pair t heard s sums (y .long) m (y .accepted) (survey-valid y valid) (whole-fine s even short) pairs
           (pairs-some (pathsOf t) (present t) (survey-shape y) nexts (survey-rows y) s pairs (w .bad) f)) q
 
       -- all pairs listen
-      pub all-admitted : pairs ≡ length s / 2 → verdict ≡ Accepted → RunAdmitted t heard s sums verdict rounds nexts
+      pub all-admitted : pairs ≡ length s / 2 → a .verdict ≡ Accepted → a .rounds ≡ rounds → RunAdmitted t heard s sums a nexts
       unfolding runRefusalIn
-      all-admitted all q =
+      all-admitted all q o =
           let listens : firstBadPair (pathsOf t) (pairsIn s) ≡ none =
           pairs-none (pathsOf t) (present t) (survey-shape y) nexts (survey-rows y) s pairs (w .bad) all in
+          let fine = run-accepted t heard s sums (y .long) m (y .accepted) (survey-valid y valid) (whole-fine s even short) listens in
           record {
-            judged = ap runRefusalIn q
-                ∙ sym (run-accepted t heard s sums (y .long) m (y .accepted) (survey-valid y valid) (whole-fine s even short) listens);
+            judged = ap runRefusalIn q ∙ sym fine;
+            zeros = λ r z. absurd (none≢some fine z);
             ready = λ z. record {
               accepted = y .accepted;
               long = y .long;
               short = short;
               listens = listens;
               rows = survey-rows y;
-              rounds = w .closed t heard (y .accepted) (survey-rows y) short all;
+              rounds = o ∙ w .closed t heard (y .accepted) (survey-rows y) short all;
             };
             longSums = λ z. m;
           }

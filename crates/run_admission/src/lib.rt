@@ -6,10 +6,11 @@ ghost use mathlib.Core.Path.{_≡_};
 ghost use mathlib.Core.Option.{none};
 ghost use lib.ListN.{length};
 ghost use Rattle.rules.specs.Refusals.{refusal};
-ghost use Rattle.run_admission.specs.RunAdmitted.{RunAdmitted, AdmittedBySchedule};
+ghost use Rattle.run_admission.specs.RunAdmitted.{refused, RunAdmitted, AdmittedBySchedule};
 use crate::schedule::walk_schedule;
 use admission::HEARD_LENGTH;
 use admission::bad_offset;
+use answer::RunAnswer;
 use answer::RunVerdict;
 use pairs::next_hops;
 use reader::Reading;
@@ -20,18 +21,16 @@ const SUMS_LENGTH: usize = 64;
 
 const LONGEST_SCHEDULE: usize = 32768;
 
-// The verdict; of an accepted run also its rounds and where the slots lead.
-pub struct Admission {
-    pub verdict: RunVerdict,
-    pub rounds: u16,
-}
-
-// A refusal leaves the rest at 0.
-fn refused(number: u8, place: usize) -> Admission
-    ensures { λ r. ⌜ r .verdict ≡ RunVerdict.Refused number place ⌝ }
+// A refusal's other numbers are 0.
+fn refusal_of(number: u8, place: usize) -> RunAnswer
+    ensures { λ r. ⌜ r ≡ refused number place ⌝ }
 {
-    Admission {
+    RunAnswer {
         verdict: RunVerdict::Refused(number, place),
+        steps: 0,
+        ups: 0,
+        downs: 0,
+        last: 0,
         rounds: 0,
     }
 }
@@ -42,59 +41,63 @@ fn admit_accepted(
     heard: &[u8],
     schedule: &[u8],
     nexts: &mut [[u8; 16]; 64],
-) -> Admission
+) -> RunAnswer
     requires { ⌜ (refusal (now table) ≡ none) × (length (now heard) ≡ 4096) ⌝ }
     ensures { λ r.
         ⌜
         AdmittedBySchedule (now (table .entry)) (now (heard .entry)) (now (schedule .entry))
-        (r .verdict) (r .rounds) (now (nexts .exit))
+        r (now (nexts .exit))
         ⌝ }
 {
     *nexts = next_hops(table);
     let at = bad_offset(nexts, heard);
     if at != HEARD_LENGTH {
-        return refused(12, at);
+        return refusal_of(12, at);
     }
     let size = schedule.len();
     if size % 2 != 0 {
-        return refused(13, 0);
+        return refusal_of(13, 0);
     }
     if LONGEST_SCHEDULE < size {
-        return refused(13, 0);
+        return refusal_of(13, 0);
     }
     let walked = walk_schedule(nexts, schedule);
     if walked.pairs != size / 2 {
-        return refused(14, walked.pairs);
+        return refusal_of(14, walked.pairs);
     }
-    Admission {
+    RunAnswer {
         verdict: RunVerdict::Accepted,
-        rounds: walked.rounds,
+        steps: 0,
+        ups: 0,
+        downs: 0,
+        last: 0,
+        rounds: walked.rounds as u32,
     }
 }
 
-// Judges a run in the order of the rules; the rows of next hops and the rounds are those of an accepted one.
+// Judges a run in the order of the rules: a refusal, or accepted with its rounds and no step yet, and the rows of next hops.
 pub fn admit_run(
     table: &[u8],
     heard: &[u8],
     schedule: &[u8],
     sums: &[i32],
     nexts: &mut [[u8; 16]; 64],
-) -> Admission
+) -> RunAnswer
     ensures { λ r.
         ⌜
         RunAdmitted (now (table .entry)) (now (heard .entry)) (now (schedule .entry)) (now (sums .entry))
-        (r .verdict) (r .rounds) (now (nexts .exit))
+        r (now (nexts .exit))
         ⌝ }
 {
     if heard.len() != HEARD_LENGTH {
-        return refused(1, 0);
+        return refusal_of(1, 0);
     }
     if sums.len() != SUMS_LENGTH {
-        return refused(1, 0);
+        return refusal_of(1, 0);
     }
     let reading = read(table);
     let Reading::Refused(number, place) = reading else {
         return admit_accepted(table, heard, schedule, nexts);
     };
-    refused(number, place)
+    refusal_of(number, place)
 }

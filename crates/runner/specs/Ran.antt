@@ -6,7 +6,7 @@ use lib.IntN.{ℤ}
 use Rattle.rules.specs.Run.{Tally}
 use Rattle.rules.specs.Answers.{runRefusal, runNumbers, heardAfterRun, sumsAfterRun}
 use Rattle.answer.specs.declared.RunAnswer.{RunAnswer}
-use Rattle.answer.specs.declared.RunVerdict.the-variants.{Accepted, Refused}
+use Rattle.answer.specs.declared.RunVerdict.the-variants.{Accepted}
 use Rattle.answer.specs.Moves.{runRefusalIn, runNumbersIn}
 use Rattle.answer.specs.MovesLaws.{run-tells}
 
@@ -14,10 +14,6 @@ use Rattle.answer.specs.MovesLaws.{run-tells}
 unfoldable pub accepted : Tally → RunAnswer
 accepted y =
     record { verdict = Accepted; steps = y .steps; ups = y .ups; downs = y .downs; last = y .lastChange; rounds = y .rounds }
-
--- the answer of a refused one: all counts are 0
-unfoldable pub refused : ℕ → ℕ → RunAnswer
-refused n k = record { verdict = Refused n k; steps = 0; ups = 0; downs = 0; last = 0; rounds = 0 }
 
 -- the answer, the heard state and the sums are those of a tally
 pub record Followed (y : Tally) (a : RunAnswer) (after : List ℕ) (sumsNow : List ℤ) : Type 0 where

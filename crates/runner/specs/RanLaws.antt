@@ -9,15 +9,14 @@ use Rattle.rules.specs.Table.{pathsOf}
 use Rattle.rules.specs.Run.{pairsIn, run}
 use Rattle.rules.specs.Answers.{unless, runRefusal, runNumbers, heardAfterRun, sumsAfterRun}
 use Rattle.answer.specs.declared.RunAnswer.{RunAnswer}
-use Rattle.answer.specs.declared.RunVerdict.{RunVerdict}
 use Rattle.answer.specs.declared.RunVerdict.the-variants.{Accepted, Refused}
 use Rattle.answer.specs.Moves.{runRefusalIn, runNumbersIn}
-use Rattle.run_admission.specs.RunAdmitted.{Ready, RunAdmitted}
-use Rattle.runner.specs.Ran.{accepted, refused, Followed, Ran}
+use Rattle.run_admission.specs.RunAdmitted.{refused, Ready, RunAdmitted}
+use Rattle.runner.specs.Ran.{accepted, Followed, Ran}
 
 module _ (table heard s : List ℕ) (sums : List ℤ) where
   -- refused
-  pub ran-refused : (n k : ℕ) (a : RunAnswer) → runRefusal table heard s sums ≡ some (record { number = n; place = k }) → a ≡ refused n k
+  ran-refused : (n k : ℕ) (a : RunAnswer) → runRefusal table heard s sums ≡ some (record { number = n; place = k }) → a ≡ refused n k
       → Ran table heard s sums a heard sums
   unfolding refused runRefusalIn runNumbersIn runNumbers heardAfterRun sumsAfterRun unless
   ran-refused n k a e q =
@@ -43,15 +42,17 @@ module _ (table heard s : List ℕ) (sums : List ℤ) where
       }
 
 -- by the verdict of the admission
-module _ {table heard s : List ℕ} {sums : List ℤ} {verdict : RunVerdict} {closed : ℕ} {nexts : List (List ℕ)}
-    (w : RunAdmitted table heard s sums verdict closed nexts) where
-  pub verdict-none : verdict ≡ Accepted → runRefusal table heard s sums ≡ none
+module _ {table heard s : List ℕ} {sums : List ℤ} {a : RunAnswer} {nexts : List (List ℕ)} (w : RunAdmitted table heard s sums a nexts) where
+  pub verdict-none : a .verdict ≡ Accepted → runRefusal table heard s sums ≡ none
   unfolding runRefusalIn
   verdict-none e = sym (w .judged) ∙ ap runRefusalIn e
 
-  pub verdict-ready : verdict ≡ Accepted → Ready table heard s nexts closed × (length sums ≡ 64)
+  pub verdict-ready : a .verdict ≡ Accepted → Ready table heard s nexts (a .rounds) × (length sums ≡ 64)
   verdict-ready e = (w .ready (verdict-none e), w .longSums (verdict-none e))
 
-  pub verdict-some : (n k : ℕ) → verdict ≡ Refused n k → runRefusal table heard s sums ≡ some (record { number = n; place = k })
+  -- a refused run has its answer
+  pub verdict-refused : (n k : ℕ) → a .verdict ≡ Refused n k → Ran table heard s sums a heard sums
   unfolding runRefusalIn
-  verdict-some n k e = sym (w .judged) ∙ ap runRefusalIn e
+  verdict-refused n k e =
+      let found : runRefusal table heard s sums ≡ some (record { number = n; place = k }) = sym (w .judged) ∙ ap runRefusalIn e in
+      ran-refused table heard s sums n k a found (w .zeros _ found)

@@ -15,7 +15,7 @@ use rests::asked_bytes;
 use tally::Counts;
 
 // The answer of an accepted run.
-fn answer_of(steps: usize, counts: Counts, rounds: u16) -> RunAnswer
+fn answer_of(steps: usize, counts: Counts, rounds: u32) -> RunAnswer
     requires { ⌜ steps ≤ 16384 ⌝ }
     ensures { λ r.
         ⌜
@@ -35,7 +35,7 @@ fn answer_of(steps: usize, counts: Counts, rounds: u16) -> RunAnswer
         ups: counts.ups,
         downs: counts.downs,
         last: counts.last,
-        rounds: rounds as u32,
+        rounds,
     }
 }
 
@@ -46,7 +46,7 @@ pub(crate) fn work(
     heard: &mut [u8],
     schedule: &[u8],
     sums: &mut [i32],
-    rounds: u16,
+    rounds: u32,
 ) -> RunAnswer
     requires { ⌜ Ready (now table) (now heard) (now schedule) (now nexts) rounds × (length (now sums) ≡ 64) ⌝ }
     ensures { λ r.

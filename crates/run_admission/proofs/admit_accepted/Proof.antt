@@ -13,8 +13,8 @@ next-hops-requires c κs = search needs
 bad-offset-requires : tie.Need-bad-offset-requires
 bad-offset-requires c κs = search needs
 
-refused-requires : tie.Need-refused-requires
-refused-requires c κs = search needs
+refusal-of-requires : tie.Need-refusal-of-requires
+refusal-of-requires c κs = search needs
 
 returns : tie.Need-returns
 returns c sums m =
@@ -22,10 +22,10 @@ returns c sums m =
     let at-nexts = at-found .before .before in
     let p = at-nexts .before .before .before .before .pre in
     let y = surveyed (p .0) (p .1) (at-nexts .next-hops .ensures) (at-found .bad-offset .ensures) in
-    heard-refused y _ sums m (c .before .if1 .taken) (c .refused .ensures)
+    heard-refused y _ sums m (c .before .if1 .taken) (c .refusal-of .ensures)
 
-refused-requires-2 : tie.Need-refused-requires-2
-refused-requires-2 c κs = search needs
+refusal-of-requires-2 : tie.Need-refusal-of-requires-2
+refusal-of-requires-2 c κs = search needs
 
 returns-2 : tie.Need-returns-2
 returns-2 c sums m =
@@ -34,10 +34,10 @@ returns-2 c sums m =
     let at-nexts = at-found .before .before in
     let p = at-nexts .before .before .before .before .pre in
     let y = surveyed (p .0) (p .1) (at-nexts .next-hops .ensures) (at-found .bad-offset .ensures) in
-    length-refused y _ sums m (at-valid .if1 .left) (odd-bad _ (c .before .if2 .taken)) (c .refused2 .ensures)
+    length-refused y _ sums m (at-valid .if1 .left) (odd-bad _ (c .before .if2 .taken)) (c .refusal-of2 .ensures)
 
-refused-requires-3 : tie.Need-refused-requires-3
-refused-requires-3 c κs = search needs
+refusal-of-requires-3 : tie.Need-refusal-of-requires-3
+refusal-of-requires-3 c κs = search needs
 
 returns-3 : tie.Need-returns-3
 returns-3 c sums m =
@@ -46,13 +46,13 @@ returns-3 c sums m =
     let at-nexts = at-found .before .before in
     let p = at-nexts .before .before .before .before .pre in
     let y = surveyed (p .0) (p .1) (at-nexts .next-hops .ensures) (at-found .bad-offset .ensures) in
-    length-refused y _ sums m (at-valid .if1 .left) (long-bad _ (c .before .if3 .taken)) (c .refused3 .ensures)
+    length-refused y _ sums m (at-valid .if1 .left) (long-bad _ (c .before .if3 .taken)) (c .refusal-of3 .ensures)
 
 walk-schedule-requires : tie.Need-walk-schedule-requires
 walk-schedule-requires c κs = search needs
 
-refused-requires-4 : tie.Need-refused-requires-4
-refused-requires-4 c κs = search needs
+refusal-of-requires-4 : tie.Need-refusal-of-requires-4
+refusal-of-requires-4 c κs = search needs
 
 returns-4 : tie.Need-returns-4
 returns-4 c sums m =
@@ -65,11 +65,15 @@ returns-4 c sums m =
     let p = at-nexts .before .before .before .before .pre in
     let y = surveyed (p .0) (p .1) (at-nexts .next-hops .ensures) (at-found .bad-offset .ensures) in
     pair-refused y _ sums m (at-valid .if1 .left) (at-even .if2 .left) (at-short .if3 .left) (at-walk .walk-schedule .ensures)
-    (c .before .if4 .taken) (c .refused4 .ensures)
+    (c .before .if4 .taken) (c .refusal-of4 .ensures)
+
+cast-t14 : tie.Need-cast-t14
+cast-t14 c = search needs
 
 returns-5 : tie.Need-returns-5
 returns-5 c sums m =
-    let at-walk = c .before .before in
+    let at-all = c .before in
+    let at-walk = at-all .before .before in
     let at-short = at-walk .before .before in
     let at-even = at-short .before in
     let at-valid = at-even .before in
@@ -78,7 +82,7 @@ returns-5 c sums m =
     let p = at-nexts .before .before .before .before .pre in
     let y = surveyed (p .0) (p .1) (at-nexts .next-hops .ensures) (at-found .bad-offset .ensures) in
     all-admitted y _ sums m (at-valid .if1 .left) (at-even .if2 .left) (at-short .if3 .left) (at-walk .walk-schedule .ensures)
-    (c .if4 .left) refl
+    (at-all .if4 .left) refl refl
 
 pub admit-accepted-spec : {M : Type 1} → statement M
 admit-accepted-spec =
@@ -86,13 +90,14 @@ admit-accepted-spec =
     (tie.spec
     next-hops-requires
     bad-offset-requires
-    refused-requires
+    refusal-of-requires
     returns
-    refused-requires-2
+    refusal-of-requires-2
     returns-2
-    refused-requires-3
+    refusal-of-requires-3
     returns-3
     walk-schedule-requires
-    refused-requires-4
+    refusal-of-requires-4
     returns-4
+    cast-t14
     returns-5)

@@ -8,17 +8,17 @@ use Rattle.run_admission.specs.RunAdmittedLaws.{admitted-not}
 use Rattle.run_admission.proofs.admit_run.Statement.{statement}
 use Rattle.run_admission.proofs.admit_run.Tie as tie
 
-refused-requires : tie.Need-refused-requires
-refused-requires c κs = search needs
+refusal-of-requires : tie.Need-refusal-of-requires
+refusal-of-requires c κs = search needs
 
 returns : tie.Need-returns
-returns c = admitted-not (run-refused-length _ _ _ _ (c .before .if1 .taken)) (c .refused .ensures)
+returns c = admitted-not (run-refused-length _ _ _ _ (c .before .if1 .taken)) (c .refusal-of .ensures)
 
-refused-requires-2 : tie.Need-refused-requires-2
-refused-requires-2 c κs = search needs
+refusal-of-requires-2 : tie.Need-refusal-of-requires-2
+refusal-of-requires-2 c κs = search needs
 
 returns-2 : tie.Need-returns-2
-returns-2 c = admitted-not (run-refused-sums _ _ _ _ (c .before .if2 .taken)) (c .refused2 .ensures)
+returns-2 c = admitted-not (run-refused-sums _ _ _ _ (c .before .if2 .taken)) (c .refusal-of2 .ensures)
 
 read-requires : tie.Need-read-requires
 read-requires c κs = search needs
@@ -40,8 +40,8 @@ returns-3 c =
     let at-read = c .before .before .before .before in
     c .admit-accepted .ensures _ (at-read .before .if2 .left)
 
-refused-requires-3 : tie.Need-refused-requires-3
-refused-requires-3 c κs = search needs
+refusal-of-requires-3 : tie.Need-refusal-of-requires-3
+refusal-of-requires-3 c κs = search needs
 
 returns-4 : tie.Need-returns-4
 returns-4 c =
@@ -51,20 +51,20 @@ returns-4 c =
     admitted-not
     (run-refused-table _ _ _ _ (at-lengths .before .if1 .left) (at-lengths .if2 .left) _
     (reading-refused _ _ _ (sym (at-known .reading .given .1) ∙ at-read .read .ensures)))
-    (c .refused3 .ensures)
+    (c .refusal-of3 .ensures)
 
 pub admit-run-spec : {M : Type 1} → statement M
 admit-run-spec =
     tie.close
     (tie.spec
-    refused-requires
+    refusal-of-requires
     returns
-    refused-requires-2
+    refusal-of-requires-2
     returns-2
     read-requires
     enum-known-reading
     enum-told
     admit-accepted-requires
     returns-3
-    refused-requires-3
+    refusal-of-requires-3
     returns-4)

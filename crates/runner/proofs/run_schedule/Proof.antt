@@ -1,24 +1,18 @@
 -- `runner::run_schedule` meets its contract: by the verdict of the admission it is refused, or worked.
 -- Assumes nothing.
 use borrow.Author.Needs.{needs}
-use Rattle.runner.specs.RanLaws.{ran-refused, ran-accepted, verdict-none, verdict-ready, verdict-some}
+use Rattle.runner.specs.RanLaws.{ran-accepted, verdict-none, verdict-ready, verdict-refused}
 use Rattle.runner.proofs.run_schedule.Statement.{statement}
 use Rattle.runner.proofs.run_schedule.Tie as tie
 
 admit-run-requires : tie.Need-admit-run-requires
 admit-run-requires c κs = search needs
 
-enum-known-verdict : tie.Need-enum-known-verdict
-enum-known-verdict c = search needs
-
 enum-told : tie.Need-enum-told
 enum-told c = search needs
 
-work-requires : tie.Need-work-requires
-work-requires c κs =
-    let at-told = c .before .before .before in
-    let at-admitted = at-told .before .before in
-    verdict-ready (at-admitted .admit-run .ensures) (at-told .enum-told .given .1)
+enum-told-2 : tie.Need-enum-told-2
+enum-told-2 c = search needs
 
 same-length : tie.Need-same-length
 same-length c = search needs
@@ -28,13 +22,14 @@ same-length-2 c = search needs
 
 returns : tie.Need-returns
 returns c =
-    let at-work = c .before .before .before in
-    let at-told = at-work .before .before .before .before in
-    let at-admitted = at-told .before .before in
-    ran-accepted _ _ _ _ _ _ _ (verdict-none (at-admitted .admit-run .ensures) (at-told .enum-told .given .1)) (at-work .work .ensures)
+    let at-admitted = c .before .before in
+    verdict-refused (at-admitted .admit-run .ensures) _ _ (c .enum-told2 .given .1)
 
-refusal-of-requires : tie.Need-refusal-of-requires
-refusal-of-requires c κs = search needs
+work-requires : tie.Need-work-requires
+work-requires c κs =
+    let at-told = c .before .before .before in
+    let at-admitted = at-told .before .before in
+    verdict-ready (at-admitted .admit-run .ensures) (at-told .enum-told .given .1)
 
 same-length-3 : tie.Need-same-length-3
 same-length-3 c = search needs
@@ -44,22 +39,22 @@ same-length-4 c = search needs
 
 returns-2 : tie.Need-returns-2
 returns-2 c =
-    let at-verdict = c .before .before in
-    let at-admitted = at-verdict .before .before in
-    ran-refused _ _ _ _ _ _ _ (verdict-some (at-admitted .admit-run .ensures) _ _ (at-verdict .verdict .given .1)) (c .refusal-of .ensures)
+    let at-work = c .before .before .before in
+    let at-told = at-work .before .before .before .before in
+    let at-admitted = at-told .before .before in
+    ran-accepted _ _ _ _ _ _ _ (verdict-none (at-admitted .admit-run .ensures) (at-told .enum-told .given .1)) (at-work .work .ensures)
 
 pub run-schedule-spec : {M : Type 1} → statement M
 run-schedule-spec =
     tie.close
     (tie.spec
     admit-run-requires
-    enum-known-verdict
     enum-told
-    work-requires
+    enum-told-2
     same-length
     same-length-2
     returns
-    refusal-of-requires
+    work-requires
     same-length-3
     same-length-4
     returns-2)
