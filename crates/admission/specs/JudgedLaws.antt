@@ -4,14 +4,14 @@ use mathlib.Core.Logic.{_≢_}
 use mathlib.Core.Bool.{Bool, true, false, not}
 use mathlib.Core.List.{List, []}
 use mathlib.Core.Option.{Option, none, some}
-use Prim.Native.Nat.{ℕ, _-_, _+_, _*_, _/_, _%_, _<_, _≤_}
+use Prim.Native.Nat.{ℕ, _-_, _+_, _/_, _%_, _<_, _≤_}
 use native.Mathlib.Omega.{arith}
 use lib.ListN.{length, getD, drop}
 use lib.Dec.{eqb, ltb}
 use borrow.Author.Tests.{lt-ltb, le-ltb, eq-eqb, ne-eqb}
 use Rattle.lists.specs.Search.{firstIn}
 use Rattle.lists.specs.Tests.{by-equal, by-less, by-option}
-use Rattle.lists.specs.ListLaws.{first-in-under, first-in-ext, seek-hit, seek-next, seek-end}
+use Rattle.lists.specs.ListLaws.{first-in-under, first-in-ext, seek-hit, seek-end}
 use Rattle.rules.specs.Table.{Path, pathsOf, present}
 use Rattle.rules.specs.Refusals.{refusal}
 use Rattle.rules.specs.Machine.{speaks, badAt, badByte, heardFault}

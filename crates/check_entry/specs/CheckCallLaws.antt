@@ -12,7 +12,7 @@ use Rattle.laws.specs.RefusalLaws.{check-numbered}
 use Rattle.laws.specs.TableLaws.{at}
 use Rattle.answer.specs.declared.Answer.{Answer}
 use Rattle.answer.specs.declared.Verdict.the-variants.{Complete, Stuck, Refused}
-use Rattle.answer.specs.Meaning.{meaning, checkRefusalIn, ringLengthIn, numbers, numbersWith}
+use Rattle.answer.specs.Meaning.{checkRefusalIn, ringLengthIn, numbers, numbersWith}
 use Rattle.answer.specs.MeaningLaws.{refusal-in}
 use Rattle.checker.specs.Checked.{Checked}
 use Rattle.words.specs.Words.{overwritten}

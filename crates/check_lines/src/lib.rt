@@ -1,5 +1,4 @@
 // The printed text of the check's answer, for any answer and any buffers.
-ghost use mathlib.Core.Path.{_≡_};
 ghost use Rattle.rules.specs.Text.{verdictLine, ringLine};
 ghost use Rattle.answer.specs.Meaning.{numbers};
 ghost use Rattle.text_writing.specs.Lay.{Laid};

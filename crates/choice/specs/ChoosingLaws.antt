@@ -3,8 +3,7 @@ use mathlib.Core.Path.{_≡_, refl, sym, ap, _∙_}
 use mathlib.Core.Logic.{_≢_}
 use mathlib.Core.Bool.{Bool, true, false}
 use mathlib.Core.List.{List, [], _∷_, map}
-use mathlib.Core.Option.{none, some}
-use Prim.Native.Nat.{ℕ, suc, _+_, _-_, _*_, _<_, _≤_}
+use Prim.Native.Nat.{ℕ, suc, _+_, _-_, _<_, _≤_}
 use native.Mathlib.Omega.{arith}
 use lib.ListN.{length, getD}
 use borrow.Author.Tests.{eq-eqb, ne-eqb}
@@ -14,7 +13,7 @@ use Rattle.lists.specs.SearchLaws.{first-found, first-none, search-hit, search-
 use Rattle.lists.specs.Fill.{tabulate}
 use Rattle.lists.specs.FillLaws.{padded-at, tabulate-at, tabulate-ext}
 use Rattle.lists.specs.RangeLaws.{map-at}
-use Rattle.rules.specs.Table.{Path, nextHop, first}
+use Rattle.rules.specs.Table.{Path}
 use Rattle.rules.specs.Stable.{extends, bestGiven}
 use Rattle.rules.specs.Report.{rankIn}
 use Rattle.rules.specs.Machine.{byteFor, lastHeard, choice, choiceBytes}
@@ -23,7 +22,7 @@ use Rattle.laws.specs.PathLaws.{first-at, first-missing, place-distinct, place-
 use Rattle.laws.specs.Shape.{Shaped}
 use Rattle.pairs.specs.NextHops.{nextRow, slotTo}
 use Rattle.pairs.specs.NextHopLaws.{there, slot-hit, slot-later, slot-small, next-at, own-count}
-use Rattle.rests.specs.Rests.{askedFor, askedRow, hearsByte}
+use Rattle.rests.specs.Rests.{askedFor, askedRow}
 use Rattle.rests.specs.HeardRestLaws.{asked-heard}
 use Rattle.choice.specs.declared.Found.{Found}
 use Rattle.choice.specs.declared.Found.the-variants.{Slot, Nothing}

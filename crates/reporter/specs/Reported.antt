@@ -10,7 +10,7 @@ use borrow.Author.Tests.{eq-eqb, not-true}
 use Rattle.lists.specs.Search.{anyBelow}
 use Rattle.lists.specs.SearchLaws.{count-any, none-below}
 use Rattle.lists.specs.FillLaws.{tabulate-at}
-use Rattle.lists.specs.Fill.{blocks, padded, tabulate}
+use Rattle.lists.specs.Fill.{padded, tabulate}
 use Rattle.rules.specs.Table.{longest}
 use Rattle.rules.specs.Refusals.{Refusal, refusedIf}
 use Rattle.rules.specs.Report.{Report, numbersOf}
@@ -25,7 +25,7 @@ use Rattle.answer.specs.Meaning as says
 use Rattle.answer.specs.MeaningLaws.{answer-tells}
 use Rattle.ring.specs.Ring.{Ringed, nextIn, ringIn}
 use Rattle.ring.specs.FollowLaws.{ring-unmarked}
-use Rattle.report_rows.specs.ShownRows.{shownRow, shownRows}
+use Rattle.report_rows.specs.ShownRows.{shownRows}
 use Rattle.report_rows.specs.ShownRowLaws.{rows-whole}
 use Rattle.reporter.specs.Showing.{countBetween, isBetween, nextNumbers, shownReport, shownRing, stuckMarks}
 

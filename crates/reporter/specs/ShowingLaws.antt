@@ -1,23 +1,19 @@
 -- Laws of what marks and records show, as the code's steps need them.
 use mathlib.Core.Path.{_≡_, refl, sym, ap, _∙_}
 use mathlib.Core.Bool.{Bool, true, false, not}
-use mathlib.Core.List.{List, [], _∷_, _++_, append-nil}
-use Prim.Native.Nat.{ℕ, suc, pred, _+_, _-_, _*_, _<_, _≤_}
+use mathlib.Core.List.{List}
+use Prim.Native.Nat.{ℕ, _+_, _<_, _≤_}
 use native.Mathlib.Omega.{arith}
 use native.Mathlib.Numerals.{add-one}
-use lib.ListN.{length, getD, take, drop, set, replicate, length-set, length-take, length-drop, length-append, drop-of-length-le}
-use lib.Seq.{take-all}
+use lib.ListN.{length, getD, take, replicate}
 use lib.Dec.{eqb}
 use borrow.Author.Tests.{eq-eqb, ne-eqb}
 use Rattle.lists.specs.Search.{countBelow, outside}
 use Rattle.lists.specs.SearchLaws.{count-in, count-out, count-most}
-use Rattle.lists.specs.Fill.{blocks, padded, tabulate}
+use Rattle.lists.specs.Fill.{tabulate}
 use Rattle.lists.specs.ListLaws.{getD-within}
-use Rattle.lists.specs.RenewLaws.{block-first, block-length, block-more}
 use Rattle.lists.specs.Tests.{by-equal, by-less, is-inside, below-out, above-out}
-use Rattle.rules.specs.Table.{recordAt, hopsOf, nextHop, pathOf, rankAt, pathAt}
-use Rattle.rules.specs.Report.{rowBytes}
-use Rattle.laws.specs.ReportLaws.{row-bytes-length}
+use Rattle.rules.specs.Table.{nextHop, pathAt}
 use Rattle.reporter.specs.Showing.{isBetween, nextFrom, shownNext}
 
 -- the count that has come to v; b says whether the mark there is outside

@@ -2,7 +2,7 @@
 -- the table's refusals ("Every program that reads a table prints the table's refusals so"); the rest is in the manner of the check's text.
 use Prim.Native.Nat.{ℕ, suc, _+_}
 use mathlib.Core.Bool.{Bool, true, false}
-use mathlib.Core.List.{List, [], _∷_, _++_}
+use mathlib.Core.List.{List, [], _++_}
 use mathlib.Core.Option.{Option, none, some}
 use lib.ListN.{getD, replicate}
 use lib.IntN.{ℤ, pos, negsuc}

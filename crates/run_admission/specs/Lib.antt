@@ -1,8 +1,8 @@
 -- The walk over a schedule, and what an admitted run may rely on.
 pub mod Tallied
-pub mod Walk
+pub mod ScheduleWalk
 pub mod RunAdmitted
 -- The laws.
 pub mod TalliedLaws
-pub mod WalkLaws
+pub mod ScheduleWalkLaws
 pub mod RunAdmittedLaws

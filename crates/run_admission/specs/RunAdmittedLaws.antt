@@ -22,8 +22,8 @@ use Rattle.answer.specs.declared.RunVerdict.the-variants.{Accepted}
 use Rattle.answer.specs.Moves.{runRefusalIn}
 use Rattle.admission.specs.Judged.{Surveyed}
 use Rattle.admission.specs.JudgedLaws.{survey-shape, survey-rows, survey-valid, survey-bad}
-use Rattle.run_admission.specs.Walk.{Walked}
-use Rattle.run_admission.specs.WalkLaws.{pairs-none, pairs-some}
+use Rattle.run_admission.specs.ScheduleWalk.{Walked}
+use Rattle.run_admission.specs.ScheduleWalkLaws.{pairs-none, pairs-some}
 use Rattle.run_admission.specs.RunAdmitted.{refused, RunAdmitted}
 
 -- refused

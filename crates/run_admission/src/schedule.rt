@@ -1,6 +1,6 @@
 // The pairs of a schedule: the first that does not listen, and the rounds that those before it close.
 ghost use mathlib.Core.Path.{_≡_};
-ghost use Rattle.run_admission.specs.Walk.{numberIn, Walked};
+ghost use Rattle.run_admission.specs.ScheduleWalk.{numberIn, Walked};
 use pairs::count_pairs;
 use pairs::steady_slot_to;
 use table_facts::SLOTS;

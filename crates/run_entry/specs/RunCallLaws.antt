@@ -6,7 +6,7 @@ use lib.ListN.{length, replicate}
 use lib.IntN.{ℤ, pos}
 use Rattle.rules.specs.Table.{pathsOf}
 use Rattle.rules.specs.Run as rules
-use Rattle.rules.specs.Answers.{unless, runRefusal, runNumbers, heardAfterRun, sumsAfterRun}
+use Rattle.rules.specs.Answers.{unless, runRefusal, heardAfterRun, sumsAfterRun}
 use Rattle.rules.specs.Entries.{codeOf, numberBytes, sumBytes, runRefusalForC, heardRunForC, sumsForC, runNumbersForC}
 use Rattle.laws.specs.EntryLaws.{run-other, run-other-sums, run-same}
 use Rattle.laws.specs.RefusalLaws.{run-numbered}

@@ -3,7 +3,6 @@ mod pair;
 mod sums;
 mod work;
 
-ghost use mathlib.Core.Path.{_≡_};
 ghost use Rattle.runner.specs.Ran.{Ran};
 use crate::work::work;
 use answer::RunAnswer;

@@ -1,5 +1,4 @@
 // One pair of a run: where what the speaker says is there already nothing changes, otherwise the listener takes it in.
-ghost use mathlib.Core.Path.{_≡_};
 ghost use Rattle.runner.specs.Taking.{Takes, TakenIn};
 use crate::sums::add;
 use stepper::hear;

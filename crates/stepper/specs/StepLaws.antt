@@ -1,5 +1,5 @@
 -- Each way through the step.
-use mathlib.Core.Path.{_≡_, refl, sym, ap, _∙_}
+use mathlib.Core.Path.{_≡_, sym, ap, _∙_}
 use mathlib.Core.Logic.{_≢_}
 use mathlib.Core.Bool.{Bool, true, false}
 use mathlib.Core.List.{List, []}
@@ -7,15 +7,14 @@ use mathlib.Core.Option.{none, some}
 use Prim.Native.Nat.{ℕ, _+_, _*_, _<_, _≤_, min}
 use native.Mathlib.Omega.{arith}
 use lib.ListN.{length, getD, set, replicate}
-use lib.IntN.{ℤ, pos, _-ℤ_}
+use lib.IntN.{ℤ}
 use mir.Val.{toZ, ofZ}
 use mir.Syntax.{w32}
 use Rattle.lists.specs.Fill.{tabulate}
-use Rattle.lists.specs.FillLaws.{tabulate-at}
 use Rattle.rules.specs.Table.{Path, records, pathsOf, slotsOf, present, listens}
 use Rattle.rules.specs.Refusals.{Refusal, refusal}
 use Rattle.rules.specs.Report.{rankIn}
-use Rattle.rules.specs.Machine.{Pair, offsetOf, byteFor, heardFault, choice, choiceBytes, step, standingOf, standing, movement}
+use Rattle.rules.specs.Machine.{Pair, offsetOf, byteFor, choice, step, standingOf, standing, movement}
 use Rattle.laws.specs.MachineLaws.{listening, speaks-other, rank-most, movement-most}
 use Rattle.rules.specs.Answers.{unless, choicesIn, stepRefusal, stepMovement, heardAfterStep}
 use Rattle.laws.specs.AnswerLaws.{step-refused-heard, step-refused-pair, step-accepted}
@@ -79,10 +78,6 @@ module _ {t heard : List ℕ} {v u : ℕ} (w : Workable t heard v u) where
       → after ≡ step paths heard pair
   unfolding step offsetOf
   says-step said after e q = q ∙ ap (set heard (64 * v + u)) e
-
-  -- the offset is within the state
-  pub offset-small : 64 * v + u < 4096
-  offset-small = omega (arith, w .listener, w .speaker)
 
   -- the listener's byte is small, whatever was heard
   pub worked-small : (state : List ℕ) (b : ℕ) → b ≡ byteFor paths v (choice paths state v) → b ≤ 16

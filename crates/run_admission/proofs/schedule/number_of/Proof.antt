@@ -3,7 +3,7 @@
 use native.Mathlib.Omega.{arith}
 use borrow.Author.Needs.{needs}
 use Rattle.pairs.specs.NextHopLaws.{slot-small}
-use Rattle.run_admission.specs.WalkLaws.{number-past, number-other, number-none, number-some}
+use Rattle.run_admission.specs.ScheduleWalkLaws.{number-past, number-other, number-none, number-some}
 use Rattle.run_admission.proofs.schedule.number_of.Statement.{statement}
 use Rattle.run_admission.proofs.schedule.number_of.Tie as tie
 

@@ -3,8 +3,8 @@
 use Prim.Native.Nat.{_≤_, _-_, _/_}
 use native.Mathlib.Omega.{arith}
 use lib.ListN.{length}
-use Rattle.run_admission.specs.Walk.{Walking}
-use Rattle.run_admission.specs.WalkLaws.{walk-start, walk-bad, walk-next, walk-end}
+use Rattle.run_admission.specs.ScheduleWalk.{Walking}
+use Rattle.run_admission.specs.ScheduleWalkLaws.{walk-start, walk-bad, walk-next, walk-end}
 use Rattle.run_admission.proofs.schedule.walk_schedule.Statement.{statement}
 use Rattle.run_admission.proofs.schedule.walk_schedule.Tie as tie
 

@@ -15,7 +15,7 @@ use Rattle.lists.specs.ListLaws.{first-in-ext, seek-hit, seek-next, seek-end}
 use Rattle.rules.specs.Table.{Path, pathsOf, present, listens, listensAt}
 use Rattle.rules.specs.Refusals.{refusal}
 use Rattle.rules.specs.Machine.{Pair, offsetOf}
-use Rattle.rules.specs.Run.{Tally, pairsIn, more, listeningOffsets, closes, begun, activated, run}
+use Rattle.rules.specs.Run.{Tally, pairsIn, more, listeningOffsets, closes, begun, activated}
 use Rattle.rules.specs.Answers.{firstBadPair}
 use Rattle.laws.specs.MachineLaws.{offset-listens}
 use Rattle.laws.specs.RunLaws.{more-most}
@@ -26,11 +26,11 @@ use Rattle.pairs.specs.NextHops.{Rows, slotTo, leadsIn, hearsFrom, listensIn, p
 use Rattle.pairs.specs.NextHopLaws.{leads-vertex, leads-other, hears-vertex, hears-other, hears-told, pairs-told, number-of, number-small, number-apart}
 use Rattle.admission.specs.JudgedLaws.{place-some, place-none, found-none, found-some}
 use Rattle.tally.specs.CountingLaws.{more-to}
-use Rattle.tally.specs.Stamps.{Numbered, Stamped, Activated, openRound, leftAfter}
+use Rattle.tally.specs.Stamps.{Numbered, Activated, openRound, leftAfter}
 use Rattle.tally.specs.StampLaws.{stamped-none, closed-on, stamped-on}
 use Rattle.run_admission.specs.Tallied.{tallyAt}
 use Rattle.run_admission.specs.TalliedLaws.{tally-start, tally-on, tally-end}
-use Rattle.run_admission.specs.Walk.{numberIn, unheard, badPair, Rounded, Walking, Walked}
+use Rattle.run_admission.specs.ScheduleWalk.{numberIn, unheard, badPair, Rounded, Walking, Walked}
 
 -- the number of a pair
 
