@@ -13,7 +13,7 @@ NAME = re.compile(r"[A-Za-z_][\w-]*(?= \.\w+$|$)")
 FILE = re.compile(r"[\w./*-]+\.(?:antt|rt|py|c|md)")
 # What stands before the colon of a statement, or is declared by a word of its own.
 DECLARED = re.compile(
-    r'^\s*(?:pub )?(?:(?:unfoldable|abbrev) )?(?:pub )?(?:extern "C" )?(?:fn |enum |struct |record |data )?'
+    r'^\s*(?:pub(?:\(crate\))? )?(?:(?:unfoldable|abbrev) )?(?:pub )?(?:extern "C" )?(?:fn |enum |struct |record |data )?'
     r"([A-Za-z_][\w-]*)(?= [:({]|\(| where)",
     re.MULTILINE,
 )
