@@ -14,7 +14,10 @@ use text_writing::put_spaced;
 
 // `verdict stuck settled 1 stuck 2 stages 1 longest 2`, with the verdict's name.
 fn put_verdict(text: &mut [u8], name: &[u8], answer: Answer) -> usize
-    ensures { λ r. ⌜ Laid 0 (verdictLine (now (name .entry)) (numbers answer)) (now (text .entry)) (now (text .exit)) r ⌝ }
+    ensures { λ r.
+        ⌜
+        Laid 0 (verdictLine (now (name .entry)) (numbers answer)) (now (text .entry)) (now (text .exit)) r
+        ⌝ }
 {
     let first = put(text, 0, b"verdict ");
     let named = put(text, first, name);

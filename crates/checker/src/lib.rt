@@ -19,7 +19,10 @@ use table_facts::slots_of;
 // The check of an accepted table.
 fn check_accepted(table: &[u8], rows: &mut [u8], ring: &mut [u8]) -> Answer
     requires { ⌜ refusal (now table) ≡ none ⌝ }
-    ensures { λ r. ⌜ Checked (now (table .entry)) (now (rows .entry)) (now (ring .entry)) r (now (rows .exit)) (now (ring .exit)) ⌝ }
+    ensures { λ r.
+        ⌜
+        Checked (now (table .entry)) (now (rows .entry)) (now (ring .entry)) r (now (rows .exit)) (now (ring .exit))
+        ⌝ }
 {
     let settling = settle(table, slots_of(table));
     let marks = settling.marks;
@@ -29,7 +32,10 @@ fn check_accepted(table: &[u8], rows: &mut [u8], ring: &mut [u8]) -> Answer
 
 // Checks a table of any length: the verdict and counts, the rows and the ring; a refused call changes no byte.
 pub fn check(table: &[u8], rows: &mut [u8], ring: &mut [u8]) -> Answer
-    ensures { λ r. ⌜ Checked (now (table .entry)) (now (rows .entry)) (now (ring .entry)) r (now (rows .exit)) (now (ring .exit)) ⌝ }
+    ensures { λ r.
+        ⌜
+        Checked (now (table .entry)) (now (rows .entry)) (now (ring .entry)) r (now (rows .exit)) (now (ring .exit))
+        ⌝ }
 {
     if rows.len() != ROWS {
         return refused(OTHER_LENGTH, 0);

@@ -62,7 +62,10 @@ fn agrees(table: &[u8], shown: &[u16], v: usize, rest: &[u8]) -> bool
 
 // Whether a path is compatible: only its first settled vertex decides.
 fn is_compatible(table: &[u8], marks: &[u8], shown: &[u16], path: &[u8]) -> bool
-    ensures { λ r. ⌜ r ≡ compatible (settledBy (now (table .entry)) (now (marks .entry)) (now (shown .entry))) (now (path .entry)) ⌝ }
+    ensures { λ r.
+        ⌜
+        r ≡ compatible (settledBy (now (table .entry)) (now (marks .entry)) (now (shown .entry))) (now (path .entry))
+        ⌝ }
 {
     let mut hop = 0;
     while hop < path.len() {

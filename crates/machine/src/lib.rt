@@ -28,14 +28,22 @@ pub fn choices(table: &[u8], heard: &[u8]) -> [u8; 64]
 
 // Stores the speaker's present choice, and answers the listener's movement; a refused call changes no byte.
 pub fn step(table: &[u8], heard: &mut [u8], listener: u8, speaker: u8) -> StepAnswer
-    ensures { λ r. ⌜ Stepped (now (table .entry)) (now (heard .entry)) (record { listener = listener; speaker = speaker }) r (now (heard .exit)) ⌝ }
+    ensures { λ r.
+        ⌜
+        Stepped (now (table .entry)) (now (heard .entry)) (record { listener = listener; speaker = speaker }) r
+        (now (heard .exit))
+        ⌝ }
 {
     step_pair(table, heard, listener, speaker)
 }
 
 // Works a schedule, and answers what it counted and each vertex's sum; a refused call changes no byte.
 pub fn run(table: &[u8], heard: &mut [u8], schedule: &[u8], sums: &mut [i32]) -> RunAnswer
-    ensures { λ r. ⌜ Ran (now (table .entry)) (now (heard .entry)) (now (schedule .entry)) (now (sums .entry)) r (now (heard .exit)) (now (sums .exit)) ⌝ }
+    ensures { λ r.
+        ⌜
+        Ran (now (table .entry)) (now (heard .entry)) (now (schedule .entry)) (now (sums .entry)) r
+        (now (heard .exit)) (now (sums .exit))
+        ⌝ }
 {
     run_schedule(table, heard, schedule, sums)
 }

@@ -106,7 +106,10 @@ pub extern "C" fn probe_text(table: &[u8], text: &mut [u8]) -> u64
 // The run program's text, laid over the front of the lent text as far as it fits, and how many bytes that is.
 #[no_mangle]
 pub extern "C" fn probe_run_text(table: &[u8], schedule: &[u8], text: &mut [u8]) -> u64
-    ensures { λ r. ⌜ Laid 0 (ranText (now (table .entry)) (now (schedule .entry))) (now (text .entry)) (now (text .exit)) r ⌝ }
+    ensures { λ r.
+        ⌜
+        Laid 0 (ranText (now (table .entry)) (now (schedule .entry))) (now (text .entry)) (now (text .exit)) r
+        ⌝ }
 {
     run_text(table, schedule, text) as u64
 }

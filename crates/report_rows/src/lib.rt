@@ -43,7 +43,10 @@ fn write_row(part: &mut [u8], mark: u8, rank: u8, path: &[u8])
 // Writes all rows: that of vertex 0, whose path is no record, then those that show their records.
 fn fill_rows(table: &[u8], marks: &[u8], shown: &[u16], rows: &mut [u8])
     requires { ⌜ (length (now marks) ≡ 64) × (length (now shown) ≡ 64) × (length (now rows) ≡ 1024) ⌝ }
-    ensures { λ r. ⌜ now (rows .exit) ≡ blocks (shownRow (now (table .entry)) (now (marks .entry)) (now (shown .entry))) 64 ⌝ }
+    ensures { λ r.
+        ⌜
+        now (rows .exit) ≡ blocks (shownRow (now (table .entry)) (now (marks .entry)) (now (shown .entry))) 64
+        ⌝ }
 {
     write_row(&mut rows[..ROW], 0, 0, b"\0");
     let mut v = 1;

@@ -55,8 +55,15 @@ pub(crate) fn write_ring(
     waiting: u8,
     ring: &mut [u8],
 ) -> u8
-    requires { ⌜ (length (now marks) ≡ 64) × (length (now shown) ≡ 64) × (waiting ≡ countBetween 255 255 (now marks)) ⌝ }
-    ensures { λ r. ⌜ Ringed (stuckMarks (now (marks .entry))) (nextNumbers (now (table .entry)) (stuckMarks (now (marks .entry))) (now (shown .entry))) (length (now (ring .entry))) r (now (ring .exit)) ⌝ }
+    requires { ⌜
+        (length (now marks) ≡ 64) × (length (now shown) ≡ 64) × (waiting ≡ countBetween 255 255 (now marks))
+        ⌝ }
+    ensures { λ r.
+        ⌜
+        Ringed (stuckMarks (now (marks .entry)))
+        (nextNumbers (now (table .entry)) (stuckMarks (now (marks .entry))) (now (shown .entry)))
+        (length (now (ring .entry))) r (now (ring .exit))
+        ⌝ }
 {
     if waiting == 0 {
         clear(ring);

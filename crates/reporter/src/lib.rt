@@ -58,8 +58,12 @@ pub fn report(
     rows: &mut [u8],
     ring: &mut [u8],
 ) -> Answer
-    ensures { λ r. ⌜ Reported (lentRefusal (now (rows .entry)) (now (ring .entry))) (shownReport (now (table .entry)) marks shown stages)
-        (now (rows .entry)) (now (ring .entry)) r (now (rows .exit)) (now (ring .exit)) ⌝ }
+    ensures { λ r.
+        ⌜
+        Reported (lentRefusal (now (rows .entry)) (now (ring .entry)))
+        (shownReport (now (table .entry)) marks shown stages)
+        (now (rows .entry)) (now (ring .entry)) r (now (rows .exit)) (now (ring .exit))
+        ⌝ }
 {
     if rows.len() != ROWS {
         return refused(OTHER_LENGTH, 0);

@@ -57,7 +57,10 @@ fn asked_byte(table: &[u8], path: &[u8], u: u8, row: [u16; 16]) -> u8
 
 // What has to be heard for the path of each slot of a row; 0 where the rest is no path of the next hop, and in empty slots.
 pub fn asked_row(table: &[u8], slots: &[[u16; 16]; 64], row: [u16; 16]) -> [u8; 16]
-    ensures { λ r. ⌜ r ≡ askedRow (heldIn (now (table .entry)) (now (slots .entry))) (slotPaths (now (table .entry)) row) ⌝ }
+    ensures { λ r.
+        ⌜
+        r ≡ askedRow (heldIn (now (table .entry)) (now (slots .entry))) (slotPaths (now (table .entry)) row)
+        ⌝ }
 {
     let mut asked = [0; 16];
     let mut k = 0;
@@ -79,7 +82,10 @@ pub fn asked_row(table: &[u8], slots: &[[u16; 16]; 64], row: [u16; 16]) -> [u8; 
 
 // The same for all vertices' slots.
 fn asked_rows(table: &[u8], slots: [[u16; 16]; 64]) -> [[u8; 16]; 64]
-    ensures { λ r. ⌜ r ≡ tabulate (λ v. askedRow (heldIn (now (table .entry)) slots) (heldIn (now (table .entry)) slots v)) 64 ⌝ }
+    ensures { λ r.
+        ⌜
+        r ≡ tabulate (λ v. askedRow (heldIn (now (table .entry)) slots) (heldIn (now (table .entry)) slots v)) 64
+        ⌝ }
 {
     let mut asked = [[0; 16]; 64];
     let mut v = 0;

@@ -59,7 +59,10 @@ struct Closed {
 
 // Follows from the start until a vertex repeats, and keeps the vertices walked; where they fill the buffer, the closed part is empty.
 fn walk(next: &[u8], start: u8, seen: &mut [u8]) -> Closed
-    ensures { λ r. ⌜ ClosedAt (nextIn (now (next .entry))) (length (now (seen .entry))) start (now (seen .exit)) (r .from) (r .to) ⌝ }
+    ensures { λ r.
+        ⌜
+        ClosedAt (nextIn (now (next .entry))) (length (now (seen .entry))) start (now (seen .exit)) (r .from) (r .to)
+        ⌝ }
 {
     let mut v = start;
     let mut n = 0;
@@ -126,7 +129,10 @@ fn write_turned(ring: &mut [u8], part: &[u8])
 
 // The ring, then 255, and its length.
 pub fn find_ring(stuck: &[bool], next: &[u8], ring: &mut [u8]) -> u8
-    ensures { λ r. ⌜ Ringed (now (stuck .entry)) (now (next .entry)) (length (now (ring .entry))) r (now (ring .exit)) ⌝ }
+    ensures { λ r.
+        ⌜
+        Ringed (now (stuck .entry)) (now (next .entry)) (length (now (ring .entry))) r (now (ring .exit))
+        ⌝ }
 {
     let mut seen = [FILLER; 65];
     let start = lowest_marked(stuck);

@@ -10,7 +10,10 @@ use table_facts::VERTICES;
 // Lays the text of a run from all zeros over the front of the lent text, as far as it fits, and answers how many bytes
 // that is; 8,192 hold every text.
 pub fn run_text(table: &[u8], schedule: &[u8], text: &mut [u8]) -> usize
-    ensures { λ r. ⌜ Laid 0 (ranText (now (table .entry)) (now (schedule .entry))) (now (text .entry)) (now (text .exit)) r ⌝ }
+    ensures { λ r.
+        ⌜
+        Laid 0 (ranText (now (table .entry)) (now (schedule .entry))) (now (text .entry)) (now (text .exit)) r
+        ⌝ }
 {
     let mut heard = [0; PAIRS];
     let mut sums = [0; VERTICES];

@@ -32,7 +32,10 @@ fn store(heard: &mut [u8], at: usize, byte: u8)
 
 // Stores what u says at 64v+u, and answers the byte of v's choice then.
 pub fn hear(nexts: &[u8; 16], asked: &[u8; 16], heard: &mut [u8], v: u8, u: u8, said: u8) -> u8
-    ensures { λ r. ⌜ Heard (now (nexts .entry)) (now (asked .entry)) (now (heard .entry)) v u said r (now (heard .exit)) ⌝ }
+    ensures { λ r.
+        ⌜
+        Heard (now (nexts .entry)) (now (asked .entry)) (now (heard .entry)) v u said r (now (heard .exit))
+        ⌝ }
 {
     store(heard, 64 * v as usize + u as usize, said);
     choice_byte(nexts, asked, heard, v)
@@ -47,9 +50,18 @@ fn work_pair(
     v: u8,
     u: u8,
 ) -> i32
-    requires { ⌜ Workable (now table) (now heard) v u × Held (now table) (now slots) × Rows (pathsOf (now table)) (now nexts) ⌝ }
-    ensures movement { λ r. ⌜ r ≡ rules.movement (pathsOf (now (table .entry))) (now (heard .entry)) (record { listener = v; speaker = u }) ⌝ }
-    ensures heard { λ r. ⌜ now (heard .exit) ≡ rules.step (pathsOf (now (table .entry))) (now (heard .entry)) (record { listener = v; speaker = u }) ⌝ }
+    requires { ⌜
+        Workable (now table) (now heard) v u × Held (now table) (now slots) × Rows (pathsOf (now table)) (now nexts)
+        ⌝ }
+    ensures movement { λ r.
+        ⌜
+        r ≡ rules.movement (pathsOf (now (table .entry))) (now (heard .entry)) (record { listener = v; speaker = u })
+        ⌝ }
+    ensures heard { λ r.
+        ⌜
+        now (heard .exit) ≡ rules.step (pathsOf (now (table .entry))) (now (heard .entry))
+        (record { listener = v; speaker = u })
+        ⌝ }
 {
     let asked = asked_row(table, slots, slots[v as usize]);
     let asking = asked_row(table, slots, slots[u as usize]);
@@ -62,7 +74,11 @@ fn work_pair(
 // The step over an accepted table: the state is judged, then the pair.
 fn step_accepted(table: &[u8], heard: &mut [u8], listener: u8, speaker: u8) -> StepAnswer
     requires { ⌜ (refusal (now table) ≡ none) × (length (now heard) ≡ 4096) ⌝ }
-    ensures { λ r. ⌜ Stepped (now (table .entry)) (now (heard .entry)) (record { listener = listener; speaker = speaker }) r (now (heard .exit)) ⌝ }
+    ensures { λ r.
+        ⌜
+        Stepped (now (table .entry)) (now (heard .entry)) (record { listener = listener; speaker = speaker }) r
+        (now (heard .exit))
+        ⌝ }
 {
     let slots = slots_of(table);
     let nexts = next_rows(table, &slots);
@@ -78,7 +94,11 @@ fn step_accepted(table: &[u8], heard: &mut [u8], listener: u8, speaker: u8) -> S
 
 // Stores the speaker's present choice, and answers the listener's movement; a refused call changes no byte.
 pub fn step_pair(table: &[u8], heard: &mut [u8], listener: u8, speaker: u8) -> StepAnswer
-    ensures { λ r. ⌜ Stepped (now (table .entry)) (now (heard .entry)) (record { listener = listener; speaker = speaker }) r (now (heard .exit)) ⌝ }
+    ensures { λ r.
+        ⌜
+        Stepped (now (table .entry)) (now (heard .entry)) (record { listener = listener; speaker = speaker }) r
+        (now (heard .exit))
+        ⌝ }
 {
     if heard.len() != HEARD_LENGTH {
         return StepAnswer::Refused(1, 0);

@@ -61,7 +61,10 @@ fn one_more(count: u32) -> u32
 
 // The counts with one step more, from the listener's ranks before and after it.
 pub fn counted(counts: Counts, number: u32, old: u8, new: u8) -> Counts
-    ensures { λ r. ⌜ CountedStep old new number (counts .ups) (counts .downs) (counts .last) (r .ups) (r .downs) (r .last) ⌝ }
+    ensures { λ r.
+        ⌜
+        CountedStep old new number (counts .ups) (counts .downs) (counts .last) (r .ups) (r .downs) (r .last)
+        ⌝ }
 {
     if old == new {
         return counts;
@@ -161,7 +164,11 @@ fn missing_after(left: u16, all: u16) -> u16
 
 // Activates a pair: it is missing no longer, and a round closes where no pair is left.
 pub fn activate(stamps: &mut [u16], at: usize, rounds: Rounds, all: u16) -> Rounds
-    ensures { λ r. ⌜ Activated (now (stamps .entry)) at (rounds .closed) (rounds .missing) all (now (stamps .exit)) (r .closed) (r .missing) ⌝ }
+    ensures { λ r.
+        ⌜
+        Activated (now (stamps .entry)) at (rounds .closed) (rounds .missing) all (now (stamps .exit)) (r .closed)
+        (r .missing)
+        ⌝ }
 {
     let closed = rounds.closed;
     let number = next_round(closed);
