@@ -1,6 +1,5 @@
-// A part of some bytes or records, and a row's printed text: its title with its pairs, and the run that it is.
+// A part of some bytes, and a row's printed text: its title with its pairs, and the run that it is.
 ghost use mathlib.Core.Path.{_≡_};
-ghost use Prim.Native.Nat.{_*_};
 ghost use mathlib.Core.List.{_++_};
 ghost use lib.ListN.{take, drop};
 ghost use Rattle.rules.specs.Text.{codes, spaced};
@@ -8,7 +7,6 @@ ghost use Rattle.text_writing.specs.Lay.{Laid};
 ghost use Rattle.published_lines.specs.RanFrom.{RanFrom};
 use machine::choices;
 use machine::run;
-use record_fields::RECORD_BYTES;
 use run_lines::print_run;
 use slices::at_most;
 use table_facts::VERTICES;
@@ -25,17 +23,6 @@ pub fn part(bytes: &[u8], from: usize, count: usize) -> &[u8]
     }
     let end = from + at_most(count, length - from);
     &bytes[from..end]
-}
-
-// So many records from one on, as far as there are.
-pub fn records(bytes: &[u8], first: u8, count: u8) -> &[u8]
-    ensures { λ r. ⌜ now r ≡ take (count * 16) (drop (first * 16) (now (bytes .entry))) ⌝ }
-{
-    part(
-        bytes,
-        first as usize * RECORD_BYTES,
-        count as usize * RECORD_BYTES,
-    )
 }
 
 // Lays a title and the numbers of the pairs over the front of the lent text, and answers how many bytes that is.
