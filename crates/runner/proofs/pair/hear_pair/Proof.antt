@@ -62,13 +62,13 @@ index-1-hear-2 : tie.Need-index-1-hear-2
 index-1-hear-2 c = search needs
 
 hear-requires : tie.Need-hear-requires
-hear-requires c κs = search needs
+hear-requires c κs = tt
 
 slice-write-choices : tie.Need-slice-write-choices
 slice-write-choices c = search needs
 
 movement-requires : tie.Need-movement-requires
-movement-requires c κs = search needs
+movement-requires c κs = tt
 
 add-requires : tie.Need-add-requires
 add-requires c κs =
@@ -85,7 +85,7 @@ cast-counted : tie.Need-cast-counted
 cast-counted c = search needs
 
 counted-requires : tie.Need-counted-requires
-counted-requires c κs = search needs
+counted-requires c κs = tt
 
 same-length : tie.Need-same-length
 same-length c = search needs

@@ -27,10 +27,10 @@ clear-requires : tie.Need-clear-requires Inv-loop μ-loop
 clear-requires c κs = c .before .before .before .before .pre .1
 
 asked-bytes-requires : tie.Need-asked-bytes-requires Inv-loop μ-loop
-asked-bytes-requires c κs = omega arith
+asked-bytes-requires c κs = tt
 
 choice-bytes-requires : tie.Need-choice-bytes-requires Inv-loop μ-loop
-choice-bytes-requires c κs = omega arith
+choice-bytes-requires c κs = tt
 
 loop-holds : tie.Need-loop-holds Inv-loop μ-loop
 loop-holds c =
