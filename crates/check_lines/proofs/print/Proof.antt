@@ -14,10 +14,10 @@ slice-aggregate-put-verdict : tie.Need-slice-aggregate-put-verdict
 slice-aggregate-put-verdict c = search needs
 
 put-verdict-requires : tie.Need-put-verdict-requires
-put-verdict-requires c κs = search needs
+put-verdict-requires c κs = tt
 
 put-rows-requires : tie.Need-put-rows-requires
-put-rows-requires c κs = search needs
+put-rows-requires c κs = tt
 
 returns : tie.Need-returns
 unfolding codes
@@ -36,13 +36,13 @@ slice-aggregate-put-verdict-2 : tie.Need-slice-aggregate-put-verdict-2
 slice-aggregate-put-verdict-2 c = search needs
 
 put-verdict-requires-2 : tie.Need-put-verdict-requires-2
-put-verdict-requires-2 c κs = search needs
+put-verdict-requires-2 c κs = tt
 
 put-rows-requires-2 : tie.Need-put-rows-requires-2
-put-rows-requires-2 c κs = search needs
+put-rows-requires-2 c κs = tt
 
 put-ring-requires : tie.Need-put-ring-requires
-put-ring-requires c κs = search needs
+put-ring-requires c κs = tt
 
 returns-2 : tie.Need-returns-2
 unfolding codes
@@ -61,7 +61,7 @@ enum-known-verdict-2 : tie.Need-enum-known-verdict-2
 enum-known-verdict-2 c = search needs
 
 put-refused-requires : tie.Need-put-refused-requires
-put-refused-requires c κs = search needs
+put-refused-requires c κs = tt
 
 returns-3 : tie.Need-returns-3
 returns-3 c =

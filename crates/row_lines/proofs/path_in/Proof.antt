@@ -12,7 +12,7 @@ returns : tie.Need-returns
 returns c = row-path-short _ (c .before .if1 .taken)
 
 byte-at-requires : tie.Need-byte-at-requires
-byte-at-requires c κs = search needs
+byte-at-requires c κs = tt
 
 cast-at-most : tie.Need-cast-at-most
 cast-at-most c = search needs
@@ -21,7 +21,7 @@ add-at-most : tie.Need-add-at-most
 add-at-most c = search needs
 
 at-most-requires : tie.Need-at-most-requires
-at-most-requires c κs = search needs
+at-most-requires c κs = tt
 
 sub-result : tie.Need-sub-result
 sub-result c = search needs

@@ -9,31 +9,31 @@ use Rattle.row_lines.proofs.put_row.Statement.{statement}
 use Rattle.row_lines.proofs.put_row.Tie as tie
 
 byte-at-requires : tie.Need-byte-at-requires
-byte-at-requires c κs = search needs
+byte-at-requires c κs = tt
 
 returns : tie.Need-returns
 returns c = laid-as (laid-nothing _ _) (row-absent _ _ _ (c .before .byte-at .ensures) (omega arith))
 
 put-number-requires : tie.Need-put-number-requires
-put-number-requires c κs = search needs
+put-number-requires c κs = tt
 
 put-stage-requires : tie.Need-put-stage-requires
-put-stage-requires c κs = search needs
+put-stage-requires c κs = tt
 
 byte-at-requires-2 : tie.Need-byte-at-requires-2
-byte-at-requires-2 c κs = search needs
+byte-at-requires-2 c κs = tt
 
 path-in-requires : tie.Need-path-in-requires
-path-in-requires c κs = search needs
+path-in-requires c κs = tt
 
 put-route-requires : tie.Need-put-route-requires
-put-route-requires c κs = search needs
+put-route-requires c κs = tt
 
 slice-aggregate-put : tie.Need-slice-aggregate-put
 slice-aggregate-put c = search needs
 
 put-requires : tie.Need-put-requires
-put-requires c κs = search needs
+put-requires c κs = tt
 
 returns-2 : tie.Need-returns-2
 unfolding codes

@@ -3,7 +3,6 @@
 use mathlib.Core.Path.{_≡_, ap}
 use Prim.Native.Nat.{_≤_, _-_}
 use native.Mathlib.Omega.{arith}
-use borrow.Author.Needs.{needs}
 use Rattle.rules.specs.Text.{rowLines}
 use Rattle.laws.specs.TextLaws.{rows-none, rows-more}
 use Rattle.text_writing.specs.Lay.{Laid}
@@ -24,10 +23,10 @@ add-v : tie.Need-add-v Inv-loop μ-loop
 add-v c = omega arith
 
 record-at-requires : tie.Need-record-at-requires Inv-loop μ-loop
-record-at-requires c κs = search needs
+record-at-requires c κs = tt
 
 put-row-requires : tie.Need-put-row-requires Inv-loop μ-loop
-put-row-requires c κs = search needs
+put-row-requires c κs = tt
 
 loop-less : tie.Need-loop-less Inv-loop μ-loop
 loop-less c = omega arith

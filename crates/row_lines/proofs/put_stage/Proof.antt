@@ -9,13 +9,13 @@ use Rattle.row_lines.proofs.put_stage.Statement.{statement}
 use Rattle.row_lines.proofs.put_stage.Tie as tie
 
 byte-at-requires : tie.Need-byte-at-requires
-byte-at-requires c κs = search needs
+byte-at-requires c κs = tt
 
 slice-aggregate-put : tie.Need-slice-aggregate-put
 slice-aggregate-put c = search needs
 
 put-requires : tie.Need-put-requires
-put-requires c κs = search needs
+put-requires c κs = tt
 
 returns : tie.Need-returns
 unfolding codes
@@ -34,7 +34,7 @@ cast-put-labelled : tie.Need-cast-put-labelled
 cast-put-labelled c = search needs
 
 put-labelled-requires : tie.Need-put-labelled-requires
-put-labelled-requires c κs = search needs
+put-labelled-requires c κs = tt
 
 returns-2 : tie.Need-returns-2
 unfolding codes labelled

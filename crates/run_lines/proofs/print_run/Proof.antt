@@ -13,10 +13,10 @@ enum-told : tie.Need-enum-told
 enum-told c = search needs
 
 put-numbers-requires : tie.Need-put-numbers-requires
-put-numbers-requires c κs = search needs
+put-numbers-requires c κs = tt
 
 put-vertices-requires : tie.Need-put-vertices-requires
-put-vertices-requires c κs = search needs
+put-vertices-requires c κs = tt
 
 returns : tie.Need-returns
 returns c =
@@ -28,7 +28,7 @@ same-length : tie.Need-same-length
 same-length c = laid-length (returns c)
 
 put-refused-requires : tie.Need-put-refused-requires
-put-refused-requires c κs = search needs
+put-refused-requires c κs = tt
 
 returns-2 : tie.Need-returns-2
 returns-2 c =

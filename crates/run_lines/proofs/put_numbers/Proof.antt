@@ -15,7 +15,7 @@ cast-put-labelled : tie.Need-cast-put-labelled
 cast-put-labelled c = search needs
 
 put-labelled-requires : tie.Need-put-labelled-requires
-put-labelled-requires c κs = search needs
+put-labelled-requires c κs = tt
 
 slice-aggregate-put-labelled-2 : tie.Need-slice-aggregate-put-labelled-2
 slice-aggregate-put-labelled-2 c = search needs
@@ -24,7 +24,7 @@ cast-put-labelled-2 : tie.Need-cast-put-labelled-2
 cast-put-labelled-2 c = search needs
 
 put-labelled-requires-2 : tie.Need-put-labelled-requires-2
-put-labelled-requires-2 c κs = search needs
+put-labelled-requires-2 c κs = tt
 
 slice-aggregate-put-labelled-3 : tie.Need-slice-aggregate-put-labelled-3
 slice-aggregate-put-labelled-3 c = search needs
@@ -33,7 +33,7 @@ cast-put-labelled-3 : tie.Need-cast-put-labelled-3
 cast-put-labelled-3 c = search needs
 
 put-labelled-requires-3 : tie.Need-put-labelled-requires-3
-put-labelled-requires-3 c κs = search needs
+put-labelled-requires-3 c κs = tt
 
 slice-aggregate-put-labelled-4 : tie.Need-slice-aggregate-put-labelled-4
 slice-aggregate-put-labelled-4 c = search needs
@@ -42,7 +42,7 @@ cast-put-labelled-4 : tie.Need-cast-put-labelled-4
 cast-put-labelled-4 c = search needs
 
 put-labelled-requires-4 : tie.Need-put-labelled-requires-4
-put-labelled-requires-4 c κs = search needs
+put-labelled-requires-4 c κs = tt
 
 slice-aggregate-put-labelled-5 : tie.Need-slice-aggregate-put-labelled-5
 slice-aggregate-put-labelled-5 c = search needs
@@ -51,13 +51,13 @@ cast-put-labelled-5 : tie.Need-cast-put-labelled-5
 cast-put-labelled-5 c = search needs
 
 put-labelled-requires-5 : tie.Need-put-labelled-requires-5
-put-labelled-requires-5 c κs = search needs
+put-labelled-requires-5 c κs = tt
 
 slice-aggregate-put : tie.Need-slice-aggregate-put
 slice-aggregate-put c = search needs
 
 put-requires : tie.Need-put-requires
-put-requires c κs = search needs
+put-requires c κs = tt
 
 returns : tie.Need-returns
 unfolding codes labelled runLine runNumbersIn

@@ -10,25 +10,25 @@ use Rattle.run_lines.proofs.put_vertex.Statement.{statement}
 use Rattle.run_lines.proofs.put_vertex.Tie as tie
 
 put-number-requires : tie.Need-put-number-requires
-put-number-requires c κs = search needs
+put-number-requires c κs = tt
 
 slice-aggregate-put : tie.Need-slice-aggregate-put
 slice-aggregate-put c = search needs
 
 put-requires : tie.Need-put-requires
-put-requires c κs = search needs
+put-requires c κs = tt
 
 put-signed-requires : tie.Need-put-signed-requires
-put-signed-requires c κs = search needs
+put-signed-requires c κs = tt
 
 put-route-requires : tie.Need-put-route-requires
-put-route-requires c κs = search needs
+put-route-requires c κs = tt
 
 slice-aggregate-put-2 : tie.Need-slice-aggregate-put-2
 slice-aggregate-put-2 c = search needs
 
 put-requires-2 : tie.Need-put-requires-2
-put-requires-2 c κs = search needs
+put-requires-2 c κs = tt
 
 returns : tie.Need-returns
 unfolding codes vertexLine

@@ -22,10 +22,10 @@ abbrev μ-loop : tie.MeasureT-loop
 μ-loop text₀ at table choices sums named slots next₀ v₀ text next v = 63 - v
 
 present-in-requires : tie.Need-present-in-requires Inv-loop μ-loop
-present-in-requires c κs = omega arith
+present-in-requires c κs = tt
 
 slots-of-requires : tie.Need-slots-of-requires Inv-loop μ-loop
-slots-of-requires c κs = omega arith
+slots-of-requires c κs = tt
 
 loop-holds : tie.Need-loop-holds Inv-loop μ-loop
 loop-holds c = (omega arith, laid-as (laid-nothing _ _) (vertices-none _ _))
@@ -49,7 +49,7 @@ loop-again c =
     )
 
 byte-at-requires : tie.Need-byte-at-requires Inv-loop μ-loop
-byte-at-requires c κs = omega arith
+byte-at-requires c κs = tt
 
 mul-ranked-record : tie.Need-mul-ranked-record Inv-loop μ-loop
 mul-ranked-record c = omega arith
@@ -58,19 +58,19 @@ array-copy-out-ranked-record : tie.Need-array-copy-out-ranked-record Inv-loop μ
 array-copy-out-ranked-record c = omega arith
 
 ranked-record-requires : tie.Need-ranked-record-requires Inv-loop μ-loop
-ranked-record-requires c κs = omega arith
+ranked-record-requires c κs = tt
 
 sum-at-requires : tie.Need-sum-at-requires Inv-loop μ-loop
-sum-at-requires c κs = omega arith
+sum-at-requires c κs = tt
 
 cast-path-at : tie.Need-cast-path-at Inv-loop μ-loop
 cast-path-at c = omega arith
 
 path-at-requires : tie.Need-path-at-requires Inv-loop μ-loop
-path-at-requires c κs = omega arith
+path-at-requires c κs = tt
 
 put-vertex-requires : tie.Need-put-vertex-requires Inv-loop μ-loop
-put-vertex-requires c κs = omega arith
+put-vertex-requires c κs = tt
 
 loop-less-2 : tie.Need-loop-less-2 Inv-loop μ-loop
 loop-less-2 c = omega arith

@@ -1,15 +1,14 @@
 -- `text_writing::put_labelled` meets its contract: the word, then the number behind it.
 -- Assumes nothing.
-use borrow.Author.Needs.{needs}
 use Rattle.text_writing.specs.LayLaws.{laid-then, laid-length}
 use Rattle.text_writing.proofs.put_labelled.Statement.{statement}
 use Rattle.text_writing.proofs.put_labelled.Tie as tie
 
 put-requires : tie.Need-put-requires
-put-requires c κs = search needs
+put-requires c κs = tt
 
 put-number-requires : tie.Need-put-number-requires
-put-number-requires c κs = search needs
+put-number-requires c κs = tt
 
 returns : tie.Need-returns
 returns c =

@@ -12,7 +12,7 @@ slice-aggregate-write-digits : tie.Need-slice-aggregate-write-digits
 slice-aggregate-write-digits c = search needs
 
 write-digits-requires : tie.Need-write-digits-requires
-write-digits-requires c κs = search needs
+write-digits-requires c κs = tt
 
 sub-put : tie.Need-sub-put
 sub-put c = search needs
@@ -24,7 +24,7 @@ part-put-end : tie.Need-part-put-end
 part-put-end c = search needs
 
 put-requires : tie.Need-put-requires
-put-requires c κs = search needs
+put-requires c κs = tt
 
 same-length : tie.Need-same-length
 same-length c = search needs

@@ -13,7 +13,7 @@ slice-aggregate-put-labelled : tie.Need-slice-aggregate-put-labelled
 slice-aggregate-put-labelled c = search needs
 
 put-labelled-requires : tie.Need-put-labelled-requires
-put-labelled-requires c κs = search needs
+put-labelled-requires c κs = tt
 
 returns : tie.Need-returns
 unfolding codes labelled
@@ -28,7 +28,7 @@ slice-aggregate-put-labelled-2 : tie.Need-slice-aggregate-put-labelled-2
 slice-aggregate-put-labelled-2 c = search needs
 
 put-labelled-requires-2 : tie.Need-put-labelled-requires-2
-put-labelled-requires-2 c κs = search needs
+put-labelled-requires-2 c κs = tt
 
 returns-2 : tie.Need-returns-2
 unfolding codes labelled
@@ -43,7 +43,7 @@ slice-aggregate-put-labelled-3 : tie.Need-slice-aggregate-put-labelled-3
 slice-aggregate-put-labelled-3 c = search needs
 
 put-labelled-requires-3 : tie.Need-put-labelled-requires-3
-put-labelled-requires-3 c κs = search needs
+put-labelled-requires-3 c κs = tt
 
 returns-3 : tie.Need-returns-3
 unfolding codes labelled

@@ -12,7 +12,7 @@ slice-aggregate-put : tie.Need-slice-aggregate-put
 slice-aggregate-put c = search needs
 
 put-requires : tie.Need-put-requires
-put-requires c κs = search needs
+put-requires c κs = tt
 
 returns : tie.Need-returns
 unfolding codes
@@ -25,16 +25,16 @@ slice-aggregate-put-labelled : tie.Need-slice-aggregate-put-labelled
 slice-aggregate-put-labelled c = search needs
 
 put-labelled-requires : tie.Need-put-labelled-requires
-put-labelled-requires c κs = search needs
+put-labelled-requires c κs = tt
 
 slice-aggregate-put-2 : tie.Need-slice-aggregate-put-2
 slice-aggregate-put-2 c = search needs
 
 put-requires-2 : tie.Need-put-requires-2
-put-requires-2 c κs = search needs
+put-requires-2 c κs = tt
 
 put-spaced-requires : tie.Need-put-spaced-requires
-put-spaced-requires c κs = search needs
+put-spaced-requires c κs = tt
 
 returns-2 : tie.Need-returns-2
 unfolding codes labelled

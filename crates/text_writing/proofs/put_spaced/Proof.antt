@@ -34,7 +34,7 @@ cast-put-labelled c =
     omega (arith, c .shared-slice-known2 .given (at-loop .k))
 
 put-labelled-requires : tie.Need-put-labelled-requires Inv-loop μ-loop
-put-labelled-requires c κs = search needs
+put-labelled-requires c κs = tt
 
 add-k : tie.Need-add-k Inv-loop μ-loop
 add-k c = omega arith
