@@ -3,7 +3,6 @@
 use mathlib.Core.Path.{_≡_, refl, sym, _∙_}
 use Prim.Native.Nat.{_≤_, _-_}
 use native.Mathlib.Omega.{arith}
-use borrow.Author.Needs.{needs}
 use lib.ListN.{length, drop}
 use Rattle.lists.specs.Search.{firstIn}
 use Rattle.lists.specs.ListLaws.{seek-next}
@@ -26,7 +25,7 @@ shared-slice-read-is-bad : tie.Need-shared-slice-read-is-bad Inv-loop μ-loop
 shared-slice-read-is-bad c = omega arith
 
 is-bad-requires : tie.Need-is-bad-requires Inv-loop μ-loop
-is-bad-requires c κs = search needs
+is-bad-requires c κs = tt
 
 returns : tie.Need-returns Inv-loop μ-loop
 returns c =

@@ -21,7 +21,7 @@ cast-is-listening-2 : tie.Need-cast-is-listening-2
 cast-is-listening-2 c = search needs
 
 is-listening-requires : tie.Need-is-listening-requires
-is-listening-requires c κs = search needs
+is-listening-requires c κs = tt
 
 returns-3 : tie.Need-returns-3
 returns-3 c =

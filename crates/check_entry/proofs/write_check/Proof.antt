@@ -22,7 +22,7 @@ cast-t9 : tie.Need-cast-t9
 cast-t9 c = search needs
 
 write-numbers-requires : tie.Need-write-numbers-requires
-write-numbers-requires c κs = search needs
+write-numbers-requires c κs = tt
 
 same-length : tie.Need-same-length
 same-length c = search needs

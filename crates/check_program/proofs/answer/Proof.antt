@@ -11,7 +11,7 @@ slice-aggregate-check-text : tie.Need-slice-aggregate-check-text
 slice-aggregate-check-text c = search needs
 
 check-text-requires : tie.Need-check-text-requires
-check-text-requires c κs = search needs
+check-text-requires c κs = tt
 
 array-share-prefix-text : tie.Need-array-share-prefix-text
 array-share-prefix-text c = search needs
@@ -22,7 +22,7 @@ slice-aggregate-write-all c =
     sym (length-take-le (r .result) (r .last .1 .0) (omega (arith, r .ensures .reaches, r .kept .1 .0)))
 
 write-all-requires : tie.Need-write-all-requires
-write-all-requires c κs = search needs
+write-all-requires c κs = tt
 
 returns : tie.Need-returns
 returns c = search needs

@@ -10,7 +10,7 @@ use Rattle.checker.proofs.check.Statement.{statement}
 use Rattle.checker.proofs.check.Tie as tie
 
 refused-requires : tie.Need-refused-requires
-refused-requires c κs = search needs
+refused-requires c κs = tt
 
 returns : tie.Need-returns
 returns c =
@@ -18,7 +18,7 @@ returns c =
     checked-refused 1 0 (refused-rows _ (at-start .args .rows .now) _ (λ q. omega arith)) (c .refused .ensures)
 
 refused-requires-2 : tie.Need-refused-requires-2
-refused-requires-2 c κs = search needs
+refused-requires-2 c κs = tt
 
 returns-2 : tie.Need-returns-2
 returns-2 c =
@@ -26,7 +26,7 @@ returns-2 c =
     checked-refused 1 0 (refused-ring _ _ (at-start .args .ring .now) (λ q. omega arith)) (c .refused2 .ensures)
 
 read-requires : tie.Need-read-requires
-read-requires c κs = search needs
+read-requires c κs = tt
 
 enum-known-reading : tie.Need-enum-known-reading
 enum-known-reading c = search needs
@@ -51,7 +51,7 @@ returns-3 c =
     at-checked .check-accepted .ensures
 
 refused-requires-3 : tie.Need-refused-requires-3
-refused-requires-3 c κs = search needs
+refused-requires-3 c κs = tt
 
 returns-4 : tie.Need-returns-4
 returns-4 c =

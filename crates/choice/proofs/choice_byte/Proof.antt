@@ -1,7 +1,6 @@
 -- `choice::choice_byte` meets its contract: the destination chooses (0), every other vertex what is found.
 -- Assumes nothing.
 use mathlib.Core.Path.{_∙_}
-use borrow.Author.Needs.{needs}
 use Rattle.choice.specs.ChoosingLaws.{chosen-small, byte-destination, byte-chosen}
 use Rattle.choice.proofs.choice_byte.Statement.{statement}
 use Rattle.choice.proofs.choice_byte.Tie as tie
@@ -10,7 +9,7 @@ returns : tie.Need-returns
 returns c = byte-destination _ _ _ _ (c .if1 .taken)
 
 choose-requires : tie.Need-choose-requires
-choose-requires c κs = search needs
+choose-requires c κs = tt
 
 byte-of-requires : tie.Need-byte-of-requires
 byte-of-requires c κs = chosen-small _ _ _ _ _ (c .choose .ensures)

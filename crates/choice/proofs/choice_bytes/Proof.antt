@@ -39,7 +39,7 @@ index-1-choice-byte-2 : tie.Need-index-1-choice-byte-2 Inv-loop μ-loop
 index-1-choice-byte-2 c = omega arith
 
 choice-byte-requires : tie.Need-choice-byte-requires Inv-loop μ-loop
-choice-byte-requires c κs = omega arith
+choice-byte-requires c κs = tt
 
 array-write-bytes : tie.Need-array-write-bytes Inv-loop μ-loop
 array-write-bytes c = omega arith

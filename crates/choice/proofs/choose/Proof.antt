@@ -22,7 +22,7 @@ element-copy-out-is-heard : tie.Need-element-copy-out-is-heard Inv-loop μ-loop
 element-copy-out-is-heard c = omega arith
 
 is-heard-requires : tie.Need-is-heard-requires Inv-loop μ-loop
-is-heard-requires c κs = omega arith
+is-heard-requires c κs = tt
 
 cast-t16 : tie.Need-cast-t16 Inv-loop μ-loop
 cast-t16 c = omega arith

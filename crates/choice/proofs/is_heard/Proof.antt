@@ -16,7 +16,7 @@ add-byte-at : tie.Need-add-byte-at
 add-byte-at c = search needs
 
 byte-at-requires : tie.Need-byte-at-requires
-byte-at-requires c κs = search needs
+byte-at-requires c κs = tt
 
 returns-2 : tie.Need-returns-2
 returns-2 c = hears-some _ _ _ (c .before .if1 .left) (c .byte-at .ensures)

@@ -12,22 +12,22 @@ slice-aggregate-same-parts : tie.Need-slice-aggregate-same-parts
 slice-aggregate-same-parts c = search needs
 
 same-parts-requires : tie.Need-same-parts-requires
-same-parts-requires c κs = search needs
+same-parts-requires c κs = tt
 
 returns : tie.Need-returns
 returns c = c .same-parts .ensures ∙ ap (same _) (sym (holds-origin _ _ _ (c .before .before .if1 .taken)))
 
 record-of-requires : tie.Need-record-of-requires
-record-of-requires c κs = search needs
+record-of-requires c κs = tt
 
 cast-path-at : tie.Need-cast-path-at
 cast-path-at c = search needs
 
 path-at-requires : tie.Need-path-at-requires
-path-at-requires c κs = search needs
+path-at-requires c κs = tt
 
 same-parts-requires-2 : tie.Need-same-parts-requires-2
-same-parts-requires-2 c κs = search needs
+same-parts-requires-2 c κs = tt
 
 returns-2 : tie.Need-returns-2
 returns-2 c =

@@ -35,13 +35,13 @@ unfolding bestRecord
 returns c = records-end _ _ _ (c .before .before .loop .inv .2) (omega arith) (c .if1 .taken)
 
 wide-requires : tie.Need-wide-requires Inv-loop μ-loop
-wide-requires c κs = omega arith
+wide-requires c κs = tt
 
 path-at-requires : tie.Need-path-at-requires Inv-loop μ-loop
-path-at-requires c κs = omega arith
+path-at-requires c κs = tt
 
 is-compatible-requires : tie.Need-is-compatible-requires Inv-loop μ-loop
-is-compatible-requires c κs = omega arith
+is-compatible-requires c κs = tt
 
 returns-2 : tie.Need-returns-2 Inv-loop μ-loop
 unfolding bestRecord

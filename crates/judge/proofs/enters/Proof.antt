@@ -9,13 +9,13 @@ returns : tie.Need-returns
 returns c = enters-none _ _ _ (c .if1 .taken)
 
 next-at-requires : tie.Need-next-at-requires
-next-at-requires c κs = search needs
+next-at-requires c κs = tt
 
 cast-is-settled : tie.Need-cast-is-settled
 cast-is-settled c = search needs
 
 is-settled-requires : tie.Need-is-settled-requires
-is-settled-requires c κs = search needs
+is-settled-requires c κs = tt
 
 returns-2 : tie.Need-returns-2
 returns-2 c = enters-next _ _ _ _ _ (c .before .before .if1 .left) (c .before .next-at .ensures) (c .is-settled .ensures)

@@ -27,7 +27,7 @@ cast-v : tie.Need-cast-v Inv-loop μ-loop
 cast-v c = omega (arith, c .shared-slice-known5 .given (c .before .before .loop .hop))
 
 is-settled-requires : tie.Need-is-settled-requires Inv-loop μ-loop
-is-settled-requires c κs = omega arith
+is-settled-requires c κs = tt
 
 sub-agrees : tie.Need-sub-agrees Inv-loop μ-loop
 sub-agrees c = omega arith
@@ -39,7 +39,7 @@ part-agrees-end : tie.Need-part-agrees-end Inv-loop μ-loop
 part-agrees-end c = omega arith
 
 agrees-requires : tie.Need-agrees-requires Inv-loop μ-loop
-agrees-requires c κs = omega arith
+agrees-requires c κs = tt
 
 returns : tie.Need-returns Inv-loop μ-loop
 returns c =

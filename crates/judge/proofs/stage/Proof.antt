@@ -35,7 +35,7 @@ slice-aggregate-is-judged : tie.Need-slice-aggregate-is-judged Inv-loop μ-loop
 slice-aggregate-is-judged c = omega arith
 
 is-judged-requires : tie.Need-is-judged-requires Inv-loop μ-loop
-is-judged-requires c κs = omega arith
+is-judged-requires c κs = tt
 
 loop-less : tie.Need-loop-less Inv-loop μ-loop
 loop-less c = omega arith
@@ -58,7 +58,7 @@ array-copy-out-best-record : tie.Need-array-copy-out-best-record Inv-loop μ-loo
 array-copy-out-best-record c = omega arith
 
 best-record-requires : tie.Need-best-record-requires Inv-loop μ-loop
-best-record-requires c κs = omega arith
+best-record-requires c κs = tt
 
 mul-next-shown : tie.Need-mul-next-shown Inv-loop μ-loop
 mul-next-shown c = omega arith
@@ -70,7 +70,7 @@ slice-aggregate-enters : tie.Need-slice-aggregate-enters Inv-loop μ-loop
 slice-aggregate-enters c = omega arith
 
 enters-requires : tie.Need-enters-requires Inv-loop μ-loop
-enters-requires c κs = omega arith
+enters-requires c κs = tt
 
 loop-less-2 : tie.Need-loop-less-2 Inv-loop μ-loop
 loop-less-2 c = omega arith

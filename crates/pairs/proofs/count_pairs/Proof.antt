@@ -25,7 +25,7 @@ index-1-count-row : tie.Need-index-1-count-row Inv-loop μ-loop
 index-1-count-row c = omega arith
 
 count-row-requires : tie.Need-count-row-requires Inv-loop μ-loop
-count-row-requires c κs = omega arith
+count-row-requires c κs = tt
 
 add-count : tie.Need-add-count Inv-loop μ-loop
 add-count c = omega (arith, row-few _ _ (c .count-row .ensures), c .before .before .before .loop .inv .1)

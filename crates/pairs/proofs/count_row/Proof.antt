@@ -35,7 +35,7 @@ element-copy-out-slot-to : tie.Need-element-copy-out-slot-to Inv-loop μ-loop
 element-copy-out-slot-to c = omega arith
 
 slot-to-requires : tie.Need-slot-to-requires Inv-loop μ-loop
-slot-to-requires c κs = omega arith
+slot-to-requires c κs = tt
 
 loop-less-2 : tie.Need-loop-less-2 Inv-loop μ-loop
 loop-less-2 c = omega arith

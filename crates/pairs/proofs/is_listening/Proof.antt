@@ -17,7 +17,7 @@ index-1-leads-to : tie.Need-index-1-leads-to
 index-1-leads-to c = search needs
 
 leads-to-requires : tie.Need-leads-to-requires
-leads-to-requires c κs = search needs
+leads-to-requires c κs = tt
 
 returns-2 : tie.Need-returns-2
 returns-2 c = c .leads-to .ensures ∙ hears-vertex _ _ _ (omega arith)

@@ -4,7 +4,6 @@ use mathlib.Core.Path.{ap, _∙_}
 use native.Mathlib.Omega.{arith}
 use lib.Dec.{ltb}
 use Rattle.pairs.specs.NextHopLaws.{leads-vertex, leads-other}
-use borrow.Author.Needs.{needs}
 use Rattle.pairs.proofs.leads_to.Statement.{statement}
 use Rattle.pairs.proofs.leads_to.Tie as tie
 
@@ -12,7 +11,7 @@ returns : tie.Need-returns
 returns c = leads-other _ _ (omega arith)
 
 slot-to-requires : tie.Need-slot-to-requires
-slot-to-requires c κs = search needs
+slot-to-requires c κs = tt
 
 returns-2 : tie.Need-returns-2
 returns-2 c = ap (λ k. ltb k 16) (c .slot-to .ensures) ∙ leads-vertex _ _ (omega arith)

@@ -32,10 +32,10 @@ unfolding nextRow
 returns c = filled-to-stop (c .before .before .loop .inv .1) (omega arith) (c .if1 .taken)
 
 wide-requires : tie.Need-wide-requires Inv-loop μ-loop
-wide-requires c κs = omega arith
+wide-requires c κs = tt
 
 next-at-requires : tie.Need-next-at-requires Inv-loop μ-loop
-next-at-requires c κs = omega arith
+next-at-requires c κs = tt
 
 array-write-nexts : tie.Need-array-write-nexts Inv-loop μ-loop
 array-write-nexts c = omega arith

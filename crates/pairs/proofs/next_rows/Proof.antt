@@ -32,7 +32,7 @@ element-copy-out-next-row : tie.Need-element-copy-out-next-row Inv-loop μ-loop
 element-copy-out-next-row c = omega arith
 
 next-row-requires : tie.Need-next-row-requires Inv-loop μ-loop
-next-row-requires c κs = omega arith
+next-row-requires c κs = tt
 
 mul-nexts : tie.Need-mul-nexts Inv-loop μ-loop
 mul-nexts c = omega arith

@@ -9,7 +9,7 @@ returns : tie.Need-returns
 returns c = mark-past _ 4096 _ (c .if1 .taken)
 
 next-hops-requires : tie.Need-next-hops-requires
-next-hops-requires c κs = search needs
+next-hops-requires c κs = tt
 
 cast-is-listening : tie.Need-cast-is-listening
 cast-is-listening c = search needs
@@ -18,7 +18,7 @@ cast-is-listening-2 : tie.Need-cast-is-listening-2
 cast-is-listening-2 c = search needs
 
 is-listening-requires : tie.Need-is-listening-requires
-is-listening-requires c κs = search needs
+is-listening-requires c κs = tt
 
 cast-result : tie.Need-cast-result
 cast-result c = search needs

@@ -9,7 +9,7 @@ returns : tie.Need-returns
 returns c = mark-past _ 64 _ (c .if1 .taken)
 
 present-in-requires : tie.Need-present-in-requires
-present-in-requires c κs = search needs
+present-in-requires c κs = tt
 
 array-read-result : tie.Need-array-read-result
 array-read-result c = search needs

@@ -13,7 +13,7 @@ returns-2 : tie.Need-returns-2
 returns-2 c = slot-no-rank _ _ _ (c .before .if1 .left) (c .if2 .taken)
 
 slots-of-requires : tie.Need-slots-of-requires
-slots-of-requires c κs = search needs
+slots-of-requires c κs = tt
 
 mul-row : tie.Need-mul-row
 mul-row c = search needs
@@ -28,7 +28,7 @@ array-read-wide : tie.Need-array-read-wide
 array-read-wide c = search needs
 
 wide-requires : tie.Need-wide-requires
-wide-requires c κs = search needs
+wide-requires c κs = tt
 
 returns-3 : tie.Need-returns-3
 returns-3 c =

@@ -14,7 +14,7 @@ returns c =
     part-past (a .bytes .now) (a .from) (a .count) (c .before .if1 .taken)
 
 at-most-requires : tie.Need-at-most-requires
-at-most-requires c κs = search needs
+at-most-requires c κs = tt
 
 add-end : tie.Need-add-end
 add-end c = search needs

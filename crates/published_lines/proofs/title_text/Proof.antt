@@ -7,16 +7,16 @@ use Rattle.published_lines.proofs.title_text.Statement.{statement}
 use Rattle.published_lines.proofs.title_text.Tie as tie
 
 put-requires : tie.Need-put-requires
-put-requires c κs = search needs
+put-requires c κs = tt
 
 put-spaced-requires : tie.Need-put-spaced-requires
-put-spaced-requires c κs = search needs
+put-spaced-requires c κs = tt
 
 slice-aggregate-put : tie.Need-slice-aggregate-put
 slice-aggregate-put c = search needs
 
 put-requires-2 : tie.Need-put-requires-2
-put-requires-2 c κs = search needs
+put-requires-2 c κs = tt
 
 returns : tie.Need-returns
 unfolding codes

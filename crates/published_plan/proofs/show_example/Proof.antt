@@ -20,7 +20,7 @@ abbrev μ-loop : tie.MeasureT-loop
 μ-loop plan table rows before₀ left₀ first₀ lines₀ k₀ before left first lines k = length plan - k
 
 nothing-heard-requires : tie.Need-nothing-heard-requires Inv-loop μ-loop
-nothing-heard-requires c κs = search needs
+nothing-heard-requires c κs = tt
 
 loop-holds : tie.Need-loop-holds Inv-loop μ-loop
 loop-holds c = (omega arith, omega arith, lines-none _)
@@ -32,16 +32,16 @@ sub-part : tie.Need-sub-part Inv-loop μ-loop
 sub-part c = search needs
 
 part-requires : tie.Need-part-requires Inv-loop μ-loop
-part-requires c κs = search needs
+part-requires c κs = tt
 
 byte-at-requires : tie.Need-byte-at-requires Inv-loop μ-loop
-byte-at-requires c κs = search needs
+byte-at-requires c κs = tt
 
 start-of-requires : tie.Need-start-of-requires Inv-loop μ-loop
-start-of-requires c κs = search needs
+start-of-requires c κs = tt
 
 show-line-requires : tie.Need-show-line-requires Inv-loop μ-loop
-show-line-requires c κs = search needs
+show-line-requires c κs = tt
 
 add-first : tie.Need-add-first Inv-loop μ-loop
 add-first c = search needs

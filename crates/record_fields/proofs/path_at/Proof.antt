@@ -6,7 +6,7 @@ use Rattle.record_fields.proofs.path_at.Statement.{statement}
 use Rattle.record_fields.proofs.path_at.Tie as tie
 
 record-at-requires : tie.Need-record-at-requires
-record-at-requires c κs = search needs
+record-at-requires c κs = tt
 
 slice-aggregate-result : tie.Need-slice-aggregate-result
 slice-aggregate-result c = search needs
@@ -15,7 +15,7 @@ returns : tie.Need-returns
 returns c = path-short _ _ (c .before .before .record-at .ensures) (c .before .if1 .taken)
 
 hops-at-requires : tie.Need-hops-at-requires
-hops-at-requires c κs = search needs
+hops-at-requires c κs = tt
 
 cast-at-most : tie.Need-cast-at-most
 cast-at-most c = search needs
@@ -24,7 +24,7 @@ add-at-most : tie.Need-add-at-most
 add-at-most c = search needs
 
 at-most-requires : tie.Need-at-most-requires
-at-most-requires c κs = search needs
+at-most-requires c κs = tt
 
 sub-result : tie.Need-sub-result
 sub-result c = search needs

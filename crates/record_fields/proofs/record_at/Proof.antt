@@ -18,7 +18,7 @@ add-at-most : tie.Need-add-at-most
 add-at-most c = search needs
 
 at-most-requires : tie.Need-at-most-requires
-at-most-requires c κs = search needs
+at-most-requires c κs = tt
 
 sub-result : tie.Need-sub-result
 sub-result c = search needs

@@ -69,10 +69,10 @@ shared-slice-read-write-row : tie.Need-shared-slice-read-write-row Inv-loop μ-l
 shared-slice-read-write-row c = omega arith
 
 rank-at-requires : tie.Need-rank-at-requires Inv-loop μ-loop
-rank-at-requires c κs = omega arith
+rank-at-requires c κs = tt
 
 path-at-requires : tie.Need-path-at-requires Inv-loop μ-loop
-path-at-requires c κs = omega arith
+path-at-requires c κs = tt
 
 write-row-requires-2 : tie.Need-write-row-requires-2 Inv-loop μ-loop
 write-row-requires-2 c κs =

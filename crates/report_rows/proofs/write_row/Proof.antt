@@ -37,7 +37,7 @@ part-fill-padded-end : tie.Need-part-fill-padded-end
 part-fill-padded-end c = search needs
 
 fill-padded-requires : tie.Need-fill-padded-requires
-fill-padded-requires c κs = search needs
+fill-padded-requires c κs = tt
 
 same-length : tie.Need-same-length
 same-length c =

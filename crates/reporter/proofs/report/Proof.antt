@@ -7,7 +7,7 @@ use Rattle.reporter.proofs.report.Statement.{statement}
 use Rattle.reporter.proofs.report.Tie as tie
 
 refused-requires : tie.Need-refused-requires
-refused-requires c κs = search needs
+refused-requires c κs = tt
 
 returns : tie.Need-returns
 returns c =
@@ -15,7 +15,7 @@ returns c =
     reported-refused 1 0 (other-rows (at-start .args .rows .now) _ (λ q. omega arith)) (c .refused .ensures)
 
 refused-requires-2 : tie.Need-refused-requires-2
-refused-requires-2 c κs = search needs
+refused-requires-2 c κs = tt
 
 returns-2 : tie.Need-returns-2
 returns-2 c =
@@ -23,7 +23,7 @@ returns-2 c =
     reported-refused 1 0 (other-ring _ (at-start .args .ring .now) (λ q. omega arith)) (c .refused2 .ensures)
 
 write-rows-requires : tie.Need-write-rows-requires
-write-rows-requires c κs = search needs
+write-rows-requires c κs = tt
 
 slice-aggregate-count-between : tie.Need-slice-aggregate-count-between
 slice-aggregate-count-between c = search needs
@@ -41,7 +41,7 @@ write-ring-requires : tie.Need-write-ring-requires
 write-ring-requires c κs = search needs
 
 verdict-of-requires : tie.Need-verdict-of-requires
-verdict-of-requires c κs = search needs
+verdict-of-requires c κs = tt
 
 slice-aggregate-count-between-2 : tie.Need-slice-aggregate-count-between-2
 slice-aggregate-count-between-2 c = search needs
@@ -50,7 +50,7 @@ count-between-requires-2 : tie.Need-count-between-requires-2
 count-between-requires-2 c κs = search needs
 
 longest-hops-requires : tie.Need-longest-hops-requires
-longest-hops-requires c κs = search needs
+longest-hops-requires c κs = tt
 
 same-length : tie.Need-same-length
 same-length c = search needs

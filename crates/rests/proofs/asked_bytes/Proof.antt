@@ -3,7 +3,6 @@
 use mathlib.Core.Path.{ap, _∙_}
 use mathlib.Core.List.{List}
 use Prim.Native.Nat.{ℕ}
-use borrow.Author.Needs.{needs}
 use Rattle.lists.specs.Fill.{tabulate}
 use Rattle.rules.specs.Table.{Path}
 use Rattle.pairs.specs.SlotPathLaws.{slotted-told}
@@ -12,10 +11,10 @@ use Rattle.rests.proofs.asked_bytes.Statement.{statement}
 use Rattle.rests.proofs.asked_bytes.Tie as tie
 
 slots-of-requires : tie.Need-slots-of-requires
-slots-of-requires c κs = search needs
+slots-of-requires c κs = tt
 
 asked-rows-requires : tie.Need-asked-rows-requires
-asked-rows-requires c κs = search needs
+asked-rows-requires c κs = tt
 
 returns : tie.Need-returns
 returns c =

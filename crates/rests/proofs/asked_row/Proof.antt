@@ -40,10 +40,10 @@ add-k : tie.Need-add-k Inv-loop μ-loop
 add-k c = omega arith
 
 wide-requires : tie.Need-wide-requires Inv-loop μ-loop
-wide-requires c κs = omega arith
+wide-requires c κs = tt
 
 next-at-requires : tie.Need-next-at-requires Inv-loop μ-loop
-next-at-requires c κs = omega arith
+next-at-requires c κs = tt
 
 loop-less : tie.Need-loop-less Inv-loop μ-loop
 loop-less c = omega arith
@@ -57,10 +57,10 @@ loop-again c =
     (omega arith, filled-to-same (i .1) (omega arith) (at-if .if1 .left) (asked-past _ _ _ _ next (omega arith)))
 
 wide-requires-2 : tie.Need-wide-requires-2 Inv-loop μ-loop
-wide-requires-2 c κs = omega arith
+wide-requires-2 c κs = tt
 
 path-at-requires : tie.Need-path-at-requires Inv-loop μ-loop
-path-at-requires c κs = omega arith
+path-at-requires c κs = tt
 
 cast-asked-byte : tie.Need-cast-asked-byte Inv-loop μ-loop
 cast-asked-byte c = omega arith
@@ -72,7 +72,7 @@ element-copy-out-asked-byte : tie.Need-element-copy-out-asked-byte Inv-loop μ-l
 element-copy-out-asked-byte c = omega arith
 
 asked-byte-requires : tie.Need-asked-byte-requires Inv-loop μ-loop
-asked-byte-requires c κs = omega arith
+asked-byte-requires c κs = tt
 
 array-write-asked : tie.Need-array-write-asked Inv-loop μ-loop
 array-write-asked c = omega arith

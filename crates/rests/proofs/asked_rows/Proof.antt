@@ -32,7 +32,7 @@ array-copy-out-row : tie.Need-array-copy-out-row Inv-loop μ-loop
 array-copy-out-row c = omega arith
 
 asked-row-requires : tie.Need-asked-row-requires Inv-loop μ-loop
-asked-row-requires c κs = omega arith
+asked-row-requires c κs = tt
 
 mul-asked : tie.Need-mul-asked Inv-loop μ-loop
 mul-asked c = omega arith

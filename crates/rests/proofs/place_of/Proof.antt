@@ -30,13 +30,13 @@ returns : tie.Need-returns Inv-loop μ-loop
 returns c = place-empty (c .before .before .loop .inv .1) (omega arith) (c .if1 .taken)
 
 wide-requires : tie.Need-wide-requires Inv-loop μ-loop
-wide-requires c κs = omega arith
+wide-requires c κs = tt
 
 path-at-requires : tie.Need-path-at-requires Inv-loop μ-loop
-path-at-requires c κs = omega arith
+path-at-requires c κs = tt
 
 same-parts-requires : tie.Need-same-parts-requires Inv-loop μ-loop
-same-parts-requires c κs = omega arith
+same-parts-requires c κs = tt
 
 cast-result : tie.Need-cast-result Inv-loop μ-loop
 cast-result c = omega arith

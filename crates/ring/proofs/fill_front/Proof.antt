@@ -9,7 +9,7 @@ use Rattle.ring.proofs.fill_front.Statement.{statement}
 use Rattle.ring.proofs.fill_front.Tie as tie
 
 at-most-requires : tie.Need-at-most-requires
-at-most-requires c κs = search needs
+at-most-requires c κs = tt
 
 slice-relend-prefix-fill-padded : tie.Need-slice-relend-prefix-fill-padded
 slice-relend-prefix-fill-padded c = search needs
@@ -18,7 +18,7 @@ slice-aggregate-fill-padded : tie.Need-slice-aggregate-fill-padded
 slice-aggregate-fill-padded c = sym (length-take-le _ _ (omega arith))
 
 fill-padded-requires : tie.Need-fill-padded-requires
-fill-padded-requires c κs = search needs
+fill-padded-requires c κs = tt
 
 sub-clear : tie.Need-sub-clear
 sub-clear c = search needs
@@ -30,7 +30,7 @@ part-clear-end : tie.Need-part-clear-end
 part-clear-end c = search needs
 
 clear-requires : tie.Need-clear-requires
-clear-requires c κs = search needs
+clear-requires c κs = tt
 
 same-length : tie.Need-same-length
 same-length c = search needs

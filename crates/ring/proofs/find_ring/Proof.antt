@@ -7,7 +7,7 @@ use Rattle.ring.proofs.find_ring.Statement.{statement}
 use Rattle.ring.proofs.find_ring.Tie as tie
 
 lowest-marked-requires : tie.Need-lowest-marked-requires
-lowest-marked-requires c κs = search needs
+lowest-marked-requires c κs = tt
 
 array-share-prefix-seen : tie.Need-array-share-prefix-seen
 array-share-prefix-seen c = search needs
@@ -16,7 +16,7 @@ slice-aggregate-fill-padded : tie.Need-slice-aggregate-fill-padded
 slice-aggregate-fill-padded c = search needs
 
 fill-padded-requires : tie.Need-fill-padded-requires
-fill-padded-requires c κs = search needs
+fill-padded-requires c κs = tt
 
 same-length : tie.Need-same-length
 same-length c = search needs
@@ -31,7 +31,7 @@ slice-aggregate-walk : tie.Need-slice-aggregate-walk
 slice-aggregate-walk c = search needs
 
 walk-requires : tie.Need-walk-requires
-walk-requires c κs = search needs
+walk-requires c κs = tt
 
 sub-write-turned : tie.Need-sub-write-turned
 sub-write-turned c = search needs
@@ -43,7 +43,7 @@ part-write-turned-end : tie.Need-part-write-turned-end
 part-write-turned-end c = search needs
 
 write-turned-requires : tie.Need-write-turned-requires
-write-turned-requires c κs = search needs
+write-turned-requires c κs = tt
 
 sub-result : tie.Need-sub-result
 sub-result c = search needs

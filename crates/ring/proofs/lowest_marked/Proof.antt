@@ -4,7 +4,6 @@ use mathlib.Core.Path.{_≡_, refl, sym, _∙_}
 use mathlib.Core.Bool.{false}
 use Prim.Native.Nat.{_-_, _≤_}
 use native.Mathlib.Omega.{arith}
-use borrow.Author.Needs.{needs}
 use lib.ListN.{getD}
 use Rattle.lists.specs.Search.{firstFrom}
 use Rattle.ring.specs.WalkLaws.{lowest-hit, lowest-next, lowest-end}
@@ -24,7 +23,7 @@ cast-is-marked : tie.Need-cast-is-marked Inv-loop μ-loop
 cast-is-marked c = omega arith
 
 is-marked-requires : tie.Need-is-marked-requires Inv-loop μ-loop
-is-marked-requires c κs = search needs
+is-marked-requires c κs = tt
 
 returns : tie.Need-returns Inv-loop μ-loop
 returns c =

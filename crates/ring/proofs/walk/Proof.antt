@@ -4,7 +4,6 @@ use mathlib.Core.Path.{sym}
 use mathlib.Core.List.{[]}
 use Prim.Native.Nat.{_-_, _≤_}
 use native.Mathlib.Omega.{arith}
-use borrow.Author.Needs.{needs}
 use lib.ListN.{length}
 use lib.Seq.{length-take-le}
 use Rattle.rules.specs.Greedy.{closedPart}
@@ -31,7 +30,7 @@ slice-aggregate-place-of : tie.Need-slice-aggregate-place-of Inv-loop μ-loop
 slice-aggregate-place-of c = sym (length-take-le _ _ (omega arith))
 
 place-of-requires : tie.Need-place-of-requires Inv-loop μ-loop
-place-of-requires c κs = search needs
+place-of-requires c κs = tt
 
 same-length : tie.Need-same-length Inv-loop μ-loop
 same-length c = let at-loop = c .before .before .before .before in at-loop .loop .inv .1 .long
@@ -50,7 +49,7 @@ slice-write-seen : tie.Need-slice-write-seen Inv-loop μ-loop
 slice-write-seen c = omega arith
 
 next-of-requires : tie.Need-next-of-requires Inv-loop μ-loop
-next-of-requires c κs = search needs
+next-of-requires c κs = tt
 
 add-n : tie.Need-add-n Inv-loop μ-loop
 add-n c = omega arith

@@ -9,13 +9,13 @@ use Rattle.ring.proofs.write_turned.Statement.{statement}
 use Rattle.ring.proofs.write_turned.Tie as tie
 
 lowest-place-requires : tie.Need-lowest-place-requires
-lowest-place-requires c κs = search needs
+lowest-place-requires c κs = tt
 
 sub-at-most : tie.Need-sub-at-most
 sub-at-most c = rw (c .lowest-place .ensures) (place-most _ _)
 
 at-most-requires : tie.Need-at-most-requires
-at-most-requires c κs = search needs
+at-most-requires c κs = tt
 
 slice-relend-prefix-fill-padded : tie.Need-slice-relend-prefix-fill-padded
 slice-relend-prefix-fill-padded c = search needs
@@ -33,7 +33,7 @@ part-fill-padded-end : tie.Need-part-fill-padded-end
 part-fill-padded-end c = search needs
 
 fill-padded-requires : tie.Need-fill-padded-requires
-fill-padded-requires c κs = search needs
+fill-padded-requires c κs = tt
 
 sub-fill-front : tie.Need-sub-fill-front
 sub-fill-front c = search needs
@@ -50,7 +50,7 @@ slice-aggregate-fill-front c =
     sym (length-take-le _ _ (rw (at-done .before .lowest-place .ensures) (place-most _ _)))
 
 fill-front-requires : tie.Need-fill-front-requires
-fill-front-requires c κs = search needs
+fill-front-requires c κs = tt
 
 same-length : tie.Need-same-length
 same-length c = search needs

@@ -8,13 +8,13 @@ use Rattle.run_admission.proofs.admit_accepted.Statement.{statement}
 use Rattle.run_admission.proofs.admit_accepted.Tie as tie
 
 next-hops-requires : tie.Need-next-hops-requires
-next-hops-requires c κs = search needs
+next-hops-requires c κs = tt
 
 bad-offset-requires : tie.Need-bad-offset-requires
-bad-offset-requires c κs = search needs
+bad-offset-requires c κs = tt
 
 refusal-of-requires : tie.Need-refusal-of-requires
-refusal-of-requires c κs = search needs
+refusal-of-requires c κs = tt
 
 returns : tie.Need-returns
 returns c sums m =
@@ -25,7 +25,7 @@ returns c sums m =
     heard-refused y _ sums m (c .before .if1 .taken) (c .refusal-of .ensures)
 
 refusal-of-requires-2 : tie.Need-refusal-of-requires-2
-refusal-of-requires-2 c κs = search needs
+refusal-of-requires-2 c κs = tt
 
 returns-2 : tie.Need-returns-2
 returns-2 c sums m =
@@ -37,7 +37,7 @@ returns-2 c sums m =
     length-refused y _ sums m (at-valid .if1 .left) (odd-bad _ (c .before .if2 .taken)) (c .refusal-of2 .ensures)
 
 refusal-of-requires-3 : tie.Need-refusal-of-requires-3
-refusal-of-requires-3 c κs = search needs
+refusal-of-requires-3 c κs = tt
 
 returns-3 : tie.Need-returns-3
 returns-3 c sums m =
@@ -49,10 +49,10 @@ returns-3 c sums m =
     length-refused y _ sums m (at-valid .if1 .left) (long-bad _ (c .before .if3 .taken)) (c .refusal-of3 .ensures)
 
 walk-schedule-requires : tie.Need-walk-schedule-requires
-walk-schedule-requires c κs = search needs
+walk-schedule-requires c κs = tt
 
 refusal-of-requires-4 : tie.Need-refusal-of-requires-4
-refusal-of-requires-4 c κs = search needs
+refusal-of-requires-4 c κs = tt
 
 returns-4 : tie.Need-returns-4
 returns-4 c sums m =

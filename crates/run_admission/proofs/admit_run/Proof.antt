@@ -9,19 +9,19 @@ use Rattle.run_admission.proofs.admit_run.Statement.{statement}
 use Rattle.run_admission.proofs.admit_run.Tie as tie
 
 refusal-of-requires : tie.Need-refusal-of-requires
-refusal-of-requires c κs = search needs
+refusal-of-requires c κs = tt
 
 returns : tie.Need-returns
 returns c = admitted-not (run-refused-length _ _ _ _ (c .before .if1 .taken)) (c .refusal-of .ensures)
 
 refusal-of-requires-2 : tie.Need-refusal-of-requires-2
-refusal-of-requires-2 c κs = search needs
+refusal-of-requires-2 c κs = tt
 
 returns-2 : tie.Need-returns-2
 returns-2 c = admitted-not (run-refused-sums _ _ _ _ (c .before .if2 .taken)) (c .refusal-of2 .ensures)
 
 read-requires : tie.Need-read-requires
-read-requires c κs = search needs
+read-requires c κs = tt
 
 enum-known-reading : tie.Need-enum-known-reading
 enum-known-reading c = search needs
@@ -41,7 +41,7 @@ returns-3 c =
     c .admit-accepted .ensures _ (at-read .before .if2 .left)
 
 refusal-of-requires-3 : tie.Need-refusal-of-requires-3
-refusal-of-requires-3 c κs = search needs
+refusal-of-requires-3 c κs = tt
 
 returns-4 : tie.Need-returns-4
 returns-4 c =

@@ -20,16 +20,16 @@ slice-aggregate-run : tie.Need-slice-aggregate-run
 slice-aggregate-run c = search needs
 
 run-requires : tie.Need-run-requires
-run-requires c κs = search needs
+run-requires c κs = tt
 
 enum-told : tie.Need-enum-told
 enum-told c = search needs
 
 write-sums-requires : tie.Need-write-sums-requires
-write-sums-requires c κs = search needs
+write-sums-requires c κs = tt
 
 write-run-requires : tie.Need-write-run-requires
-write-run-requires c κs = search needs
+write-run-requires c κs = tt
 
 same-length : tie.Need-same-length
 same-length c = search needs
@@ -65,7 +65,7 @@ cast-code-of c =
     omega (arith, small)
 
 code-of-requires : tie.Need-code-of-requires
-code-of-requires c κs = search needs
+code-of-requires c κs = tt
 
 same-length-4 : tie.Need-same-length-4
 same-length-4 c = search needs

@@ -11,7 +11,7 @@ use Rattle.run_entry.proofs.write_run.Statement.{statement}
 use Rattle.run_entry.proofs.write_run.Tie as tie
 
 write-numbers-requires : tie.Need-write-numbers-requires
-write-numbers-requires c κs = search needs
+write-numbers-requires c κs = tt
 
 same-length : tie.Need-same-length
 same-length c = search needs

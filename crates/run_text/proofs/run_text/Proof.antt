@@ -13,13 +13,13 @@ slice-aggregate-run-2 : tie.Need-slice-aggregate-run-2
 slice-aggregate-run-2 c = search needs
 
 run-requires : tie.Need-run-requires
-run-requires c κs = search needs
+run-requires c κs = tt
 
 slice-aggregate-choices : tie.Need-slice-aggregate-choices
 slice-aggregate-choices c = search needs
 
 choices-requires : tie.Need-choices-requires
-choices-requires c κs = search needs
+choices-requires c κs = tt
 
 slice-aggregate-print-run : tie.Need-slice-aggregate-print-run
 slice-aggregate-print-run c = search needs
@@ -28,7 +28,7 @@ slice-aggregate-print-run-2 : tie.Need-slice-aggregate-print-run-2
 slice-aggregate-print-run-2 c = search needs
 
 print-run-requires : tie.Need-print-run-requires
-print-run-requires c κs = search needs
+print-run-requires c κs = tt
 
 same-length : tie.Need-same-length
 same-length c = search needs

@@ -3,7 +3,6 @@
 use mathlib.Core.Path.{_≡_, refl, sym, _∙_}
 use Prim.Native.Nat.{_≤_, _-_}
 use native.Mathlib.Omega.{arith}
-use borrow.Author.Needs.{needs}
 use lib.ListN.{length, drop}
 use Rattle.lists.specs.Search.{anyIn, outside}
 use Rattle.lists.specs.ListLaws.{scan-hit, scan-next, scan-end}
@@ -23,7 +22,7 @@ shared-slice-read-is-outside : tie.Need-shared-slice-read-is-outside Inv-loop μ
 shared-slice-read-is-outside c = omega arith
 
 is-outside-requires : tie.Need-is-outside-requires Inv-loop μ-loop
-is-outside-requires c κs = search needs
+is-outside-requires c κs = tt
 
 returns : tie.Need-returns Inv-loop μ-loop
 returns c =

@@ -3,7 +3,6 @@
 use mathlib.Core.Path.{_≡_, refl, sym, _∙_}
 use Prim.Native.Nat.{_≤_, _-_}
 use native.Mathlib.Omega.{arith}
-use borrow.Author.Needs.{needs}
 use lib.ListN.{length, getD, take, length-set}
 use Rattle.lists.specs.Fill.{tabulate}
 use Rattle.lists.specs.FillLaws.{tabulate-none, fill-more, fill-end, padded-tabulate}
@@ -21,7 +20,7 @@ loop-holds : tie.Need-loop-holds Inv-loop μ-loop
 loop-holds c = (omega arith, refl, sym (tabulate-none _))
 
 byte-or-255-requires : tie.Need-byte-or-255-requires Inv-loop μ-loop
-byte-or-255-requires c κs = search needs
+byte-or-255-requires c κs = tt
 
 slice-write-part : tie.Need-slice-write-part Inv-loop μ-loop
 slice-write-part c = omega arith

@@ -3,7 +3,6 @@
 use mathlib.Core.Path.{_≡_, refl, sym, _∙_}
 use Prim.Native.Nat.{_≤_, _-_}
 use native.Mathlib.Omega.{arith}
-use borrow.Author.Needs.{needs}
 use lib.ListN.{length, drop}
 use Rattle.lists.specs.Renew.{marked}
 use Rattle.lists.specs.FillLaws.{marked-next, marked-end}
@@ -27,7 +26,7 @@ cast-mark : tie.Need-cast-mark Inv-loop μ-loop
 cast-mark c = omega (arith, c .shared-slice-known2 .given (c .before .before .before .loop .k))
 
 mark-requires : tie.Need-mark-requires Inv-loop μ-loop
-mark-requires c κs = search needs
+mark-requires c κs = tt
 
 add-k : tie.Need-add-k Inv-loop μ-loop
 add-k c = omega arith

@@ -12,16 +12,16 @@ returns c =
     step-not-lent _ _ _ (at-call .args .numbers .now) (c .if1 .taken)
 
 step-requires : tie.Need-step-requires
-step-requires c κs = search needs
+step-requires c κs = tt
 
 enum-known-answer : tie.Need-enum-known-answer
 enum-known-answer c = search needs
 
 complement-requires : tie.Need-complement-requires
-complement-requires c κs = search needs
+complement-requires c κs = tt
 
 write-numbers-requires : tie.Need-write-numbers-requires
-write-numbers-requires c κs = search needs
+write-numbers-requires c κs = tt
 
 same-length : tie.Need-same-length
 same-length c = search needs
@@ -53,7 +53,7 @@ cast-code-of c =
     omega (arith, small)
 
 code-of-requires : tie.Need-code-of-requires
-code-of-requires c κs = search needs
+code-of-requires c κs = tt
 
 same-length-3 : tie.Need-same-length-3
 same-length-3 c = search needs

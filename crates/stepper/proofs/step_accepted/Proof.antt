@@ -9,13 +9,13 @@ use Rattle.stepper.proofs.step_accepted.Statement.{statement}
 use Rattle.stepper.proofs.step_accepted.Tie as tie
 
 slots-of-requires : tie.Need-slots-of-requires
-slots-of-requires c κs = search needs
+slots-of-requires c κs = tt
 
 next-rows-requires : tie.Need-next-rows-requires
-next-rows-requires c κs = search needs
+next-rows-requires c κs = tt
 
 bad-offset-requires : tie.Need-bad-offset-requires
-bad-offset-requires c κs = search needs
+bad-offset-requires c κs = tt
 
 same-length : tie.Need-same-length
 same-length c = search needs
@@ -31,7 +31,7 @@ returns c =
     way-heard y _ (c .if1 .taken)
 
 is-listening-requires : tie.Need-is-listening-requires
-is-listening-requires c κs = search needs
+is-listening-requires c κs = tt
 
 same-length-2 : tie.Need-same-length-2
 same-length-2 c = search needs

@@ -12,7 +12,7 @@ element-copy-out-asked-row : tie.Need-element-copy-out-asked-row
 element-copy-out-asked-row c = omega arith
 
 asked-row-requires : tie.Need-asked-row-requires
-asked-row-requires c κs = omega arith
+asked-row-requires c κs = tt
 
 mul-asked-row-2 : tie.Need-mul-asked-row-2
 mul-asked-row-2 c = omega arith
@@ -21,7 +21,7 @@ element-copy-out-asked-row-2 : tie.Need-element-copy-out-asked-row-2
 element-copy-out-asked-row-2 c = omega arith
 
 asked-row-requires-2 : tie.Need-asked-row-requires-2
-asked-row-requires-2 c κs = omega arith
+asked-row-requires-2 c κs = tt
 
 mul-choice-byte : tie.Need-mul-choice-byte
 mul-choice-byte c = omega arith
@@ -30,7 +30,7 @@ index-1-choice-byte : tie.Need-index-1-choice-byte
 index-1-choice-byte c = omega arith
 
 choice-byte-requires : tie.Need-choice-byte-requires
-choice-byte-requires c κs = omega arith
+choice-byte-requires c κs = tt
 
 mul-choice-byte-2 : tie.Need-mul-choice-byte-2
 mul-choice-byte-2 c = omega arith
@@ -39,7 +39,7 @@ index-1-choice-byte-2 : tie.Need-index-1-choice-byte-2
 index-1-choice-byte-2 c = omega arith
 
 choice-byte-requires-2 : tie.Need-choice-byte-requires-2
-choice-byte-requires-2 c κs = omega arith
+choice-byte-requires-2 c κs = tt
 
 mul-hear : tie.Need-mul-hear
 mul-hear c = omega arith
@@ -48,10 +48,10 @@ index-1-hear : tie.Need-index-1-hear
 index-1-hear c = omega arith
 
 hear-requires : tie.Need-hear-requires
-hear-requires c κs = omega arith
+hear-requires c κs = tt
 
 movement-requires : tie.Need-movement-requires
-movement-requires c κs = omega arith
+movement-requires c κs = tt
 
 same-length : tie.Need-same-length
 same-length c = omega arith

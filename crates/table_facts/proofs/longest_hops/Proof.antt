@@ -3,7 +3,6 @@
 use mathlib.Core.Path.{_≡_, refl, sym}
 use Prim.Native.Nat.{_≤_, _-_}
 use native.Mathlib.Omega.{arith}
-use borrow.Author.Needs.{needs}
 use Rattle.lists.specs.Search.{maxBelow}
 use Rattle.lists.specs.SearchLaws.{max-none}
 use Rattle.rules.specs.Table.{records, hopsAt, longest}
@@ -22,10 +21,10 @@ unfolding records
 loop-holds c = (refl, omega arith, sym (max-none _))
 
 hops-at-requires : tie.Need-hops-at-requires Inv-loop μ-loop
-hops-at-requires c κs = omega arith
+hops-at-requires c κs = tt
 
 larger-requires : tie.Need-larger-requires Inv-loop μ-loop
-larger-requires c κs = search needs
+larger-requires c κs = tt
 
 add-i : tie.Need-add-i Inv-loop μ-loop
 add-i c = omega arith

@@ -3,7 +3,6 @@
 use mathlib.Core.Path.{_≡_, refl, sym, ap, _∙_}
 use Prim.Native.Nat.{_≤_, _-_}
 use native.Mathlib.Omega.{arith}
-use borrow.Author.Needs.{needs}
 use lib.ListN.{length}
 use Rattle.lists.specs.Fill.{tabulate}
 use Rattle.lists.specs.FillLaws.{tabulate-length}
@@ -29,10 +28,10 @@ slice-aggregate-mark-all : tie.Need-slice-aggregate-mark-all Inv-loop μ-loop
 slice-aggregate-mark-all c = sym (ap length (c .before .before .loop .inv .2) ∙ tabulate-length _ 64)
 
 path-at-requires : tie.Need-path-at-requires Inv-loop μ-loop
-path-at-requires c κs = omega arith
+path-at-requires c κs = tt
 
 mark-all-requires : tie.Need-mark-all-requires Inv-loop μ-loop
-mark-all-requires c κs = search needs
+mark-all-requires c κs = tt
 
 add-i : tie.Need-add-i Inv-loop μ-loop
 add-i c = omega arith

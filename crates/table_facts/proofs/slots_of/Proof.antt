@@ -3,7 +3,6 @@
 use mathlib.Core.Path.{_≡_, refl}
 use Prim.Native.Nat.{_≤_, _-_, min}
 use native.Mathlib.Omega.{arith}
-use borrow.Author.Needs.{needs}
 use Rattle.rules.specs.Table.{records}
 use Rattle.laws.specs.PassLaws.{Slotted, slots-skip, slots-full, slots-store, slots-none}
 use Rattle.table_facts.proofs.slots_of.Statement.{statement}
@@ -16,7 +15,7 @@ abbrev μ-loop : tie.MeasureT-loop
 μ-loop t count slots₀ used₀ i₀ slots used i = count - i
 
 at-most-requires : tie.Need-at-most-requires Inv-loop μ-loop
-at-most-requires c κs = search needs
+at-most-requires c κs = tt
 
 loop-holds : tie.Need-loop-holds Inv-loop μ-loop
 unfolding records
@@ -26,7 +25,7 @@ add-i : tie.Need-add-i Inv-loop μ-loop
 add-i c = omega arith
 
 owner-at-requires : tie.Need-owner-at-requires Inv-loop μ-loop
-owner-at-requires c κs = omega arith
+owner-at-requires c κs = tt
 
 cast-v : tie.Need-cast-v Inv-loop μ-loop
 cast-v c = omega arith

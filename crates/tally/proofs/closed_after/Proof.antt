@@ -1,12 +1,11 @@
 -- `tally::closed_after` meets its contract: one more where no pair is left.
 -- Assumes nothing.
-use borrow.Author.Needs.{needs}
 use Rattle.tally.specs.StampLaws.{closed-more, closed-same}
 use Rattle.tally.proofs.closed_after.Statement.{statement}
 use Rattle.tally.proofs.closed_after.Tie as tie
 
 next-round-requires : tie.Need-next-round-requires
-next-round-requires c κs = search needs
+next-round-requires c κs = tt
 
 returns : tie.Need-returns
 returns c = closed-more _ _ _ (c .before .if1 .taken) (c .next-round .ensures)

@@ -1,6 +1,5 @@
 -- `tally::counted` meets its contract: the rank stays, rises, falls, or changes with the standing kept.
 -- Assumes nothing.
-use borrow.Author.Needs.{needs}
 use Rattle.tally.specs.CountingLaws.{counted-same, counted-up, counted-down, counted-level}
 use Rattle.tally.proofs.counted.Statement.{statement}
 use Rattle.tally.proofs.counted.Tie as tie
@@ -9,13 +8,13 @@ returns : tie.Need-returns
 returns c = counted-same _ _ _ _ _ _ (c .if1 .taken)
 
 standing-of-requires : tie.Need-standing-of-requires
-standing-of-requires c κs = search needs
+standing-of-requires c κs = tt
 
 standing-of-requires-2 : tie.Need-standing-of-requires-2
-standing-of-requires-2 c κs = search needs
+standing-of-requires-2 c κs = tt
 
 one-more-requires : tie.Need-one-more-requires
-one-more-requires c κs = search needs
+one-more-requires c κs = tt
 
 returns-2 : tie.Need-returns-2
 returns-2 c =
@@ -25,7 +24,7 @@ returns-2 c =
     (c .before .if2 .taken) _ (c .one-more .ensures)
 
 one-more-requires-2 : tie.Need-one-more-requires-2
-one-more-requires-2 c κs = search needs
+one-more-requires-2 c κs = tt
 
 returns-3 : tie.Need-returns-3
 returns-3 c =

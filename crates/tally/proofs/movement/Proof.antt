@@ -6,10 +6,10 @@ use Rattle.tally.proofs.movement.Statement.{statement}
 use Rattle.tally.proofs.movement.Tie as tie
 
 standing-of-requires : tie.Need-standing-of-requires
-standing-of-requires c κs = search needs
+standing-of-requires c κs = tt
 
 standing-of-requires-2 : tie.Need-standing-of-requires-2
-standing-of-requires-2 c κs = search needs
+standing-of-requires-2 c κs = tt
 
 cast-result : tie.Need-cast-result
 cast-result c = search needs

@@ -25,7 +25,7 @@ array-read-start-mark : tie.Need-array-read-start-mark Inv-loop μ-loop
 array-read-start-mark c = omega arith
 
 start-mark-requires : tie.Need-start-mark-requires Inv-loop μ-loop
-start-mark-requires c κs = omega arith
+start-mark-requires c κs = tt
 
 array-write-marks : tie.Need-array-write-marks Inv-loop μ-loop
 array-write-marks c = omega arith

@@ -15,7 +15,7 @@ cast-step-2 : tie.Need-cast-step-2
 cast-step-2 c = search needs
 
 step-requires : tie.Need-step-requires
-step-requires c κs = search needs
+step-requires c κs = tt
 
 slice-aggregate-same-parts : tie.Need-slice-aggregate-same-parts
 slice-aggregate-same-parts c = search needs
@@ -24,7 +24,7 @@ slice-aggregate-same-parts-2 : tie.Need-slice-aggregate-same-parts-2
 slice-aggregate-same-parts-2 c = search needs
 
 same-parts-requires : tie.Need-same-parts-requires
-same-parts-requires c κs = search needs
+same-parts-requires c κs = tt
 
 returns : tie.Need-returns
 returns c =

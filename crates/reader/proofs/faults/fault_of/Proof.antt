@@ -2,7 +2,6 @@
 -- Assumes nothing.
 use mathlib.Core.Path.{_≡_, refl, sym, ap, _∙_}
 use Prim.Native.Nat.{ℕ, _≤_}
-use borrow.Author.Needs.{needs}
 use Rattle.rules.specs.Table.{recordAt, hopsAt}
 use Rattle.rules.specs.Refusals.{hopsBad, vertexBad, fillerBad, twiceBad, lastBad, recordRules, rule, inRecord, firstBroken}
 use Rattle.laws.specs.TableLaws.{Past, past-none, past-more, past-stop, hops-small, orderly-more}
@@ -97,7 +96,7 @@ alone-requires : tie.Need-alone-requires
 alone-requires c κs = c .before .pre .0
 
 hops-bad-requires : tie.Need-hops-bad-requires
-hops-bad-requires c κs = search needs
+hops-bad-requires c κs = tt
 
 returns : tie.Need-returns
 unfolding recordRules rule inRecord
@@ -106,7 +105,7 @@ returns c =
     (c .if1 .taken)
 
 vertex-bad-requires : tie.Need-vertex-bad-requires
-vertex-bad-requires c κs = search needs
+vertex-bad-requires c κs = tt
 
 returns-2 : tie.Need-returns-2
 unfolding recordRules rule inRecord
@@ -128,7 +127,7 @@ returns-3 c =
     (c .before .filler-bad .ensures ∙ ap fillerBad (own (alone2 (c .before .before)))) (c .if3 .taken)
 
 twice-bad-requires : tie.Need-twice-bad-requires
-twice-bad-requires c κs = search needs
+twice-bad-requires c κs = tt
 
 returns-4 : tie.Need-returns-4
 unfolding recordRules rule inRecord
@@ -137,7 +136,7 @@ returns-4 c =
     (c .before .twice-bad .ensures ∙ ap twiceBad (own (alone3 (c .before .before)))) (c .if4 .taken)
 
 last-bad-requires : tie.Need-last-bad-requires
-last-bad-requires c κs = search needs
+last-bad-requires c κs = tt
 
 returns-5 : tie.Need-returns-5
 unfolding recordRules rule inRecord
@@ -146,7 +145,7 @@ returns-5 c =
     (c .before .last-bad .ensures ∙ ap lastBad (own (alone4 (c .before .before)))) (c .if5 .taken)
 
 owner-bad-requires : tie.Need-owner-bad-requires
-owner-bad-requires c κs = search needs
+owner-bad-requires c κs = tt
 
 returns-6 : tie.Need-returns-6
 unfolding recordRules rule inRecord
@@ -154,7 +153,7 @@ returns-6 c =
     past-stop _ _ 5 _ _ refl (past5 (c .before .before)) (c .before .owner-bad .ensures) (c .if6 .taken)
 
 rank-bad-requires : tie.Need-rank-bad-requires
-rank-bad-requires c κs = search needs
+rank-bad-requires c κs = tt
 
 returns-7 : tie.Need-returns-7
 unfolding recordRules rule inRecord

@@ -2,17 +2,16 @@
 -- Assumes nothing.
 use mathlib.Core.Path.{ap}
 use native.Mathlib.Omega.{arith}
-use borrow.Author.Needs.{needs}
 use lib.ListN.{length}
 use Rattle.laws.specs.TableLaws.{record-length, filler-hit, filler-rest}
 use Rattle.reader.proofs.faults.filler_bad.Statement.{statement}
 use Rattle.reader.proofs.faults.filler_bad.Tie as tie
 
 record-at-requires : tie.Need-record-at-requires
-record-at-requires c κs = search needs
+record-at-requires c κs = tt
 
 hops-at-requires : tie.Need-hops-at-requires
-hops-at-requires c κs = search needs
+hops-at-requires c κs = tt
 
 cast-from : tie.Need-cast-from
 cast-from c = omega arith
@@ -32,7 +31,7 @@ part-any-outside-end c =
     omega (arith, ap length (read .record-at .ensures), record-length _ _ (read .before .before .pre .0))
 
 any-outside-requires : tie.Need-any-outside-requires
-any-outside-requires c κs = search needs
+any-outside-requires c κs = tt
 
 returns : tie.Need-returns
 returns c =
@@ -46,7 +45,7 @@ shared-slice-read-is-outside c =
     omega (arith, ap length (read .record-at .ensures), record-length _ _ (read .before .before .pre .0))
 
 is-outside-requires : tie.Need-is-outside-requires
-is-outside-requires c κs = search needs
+is-outside-requires c κs = tt
 
 returns-2 : tie.Need-returns-2
 returns-2 c =

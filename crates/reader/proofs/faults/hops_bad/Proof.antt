@@ -1,17 +1,16 @@
 -- `reader::faults::hops_bad` meets its contract: the test is that of the hops.
 -- Assumes nothing.
 use mathlib.Core.Path.{_∙_, ap}
-use borrow.Author.Needs.{needs}
 use Rattle.lists.specs.Search.{outside}
 use Rattle.rules.specs.Refusals.{hopsBad}
 use Rattle.reader.proofs.faults.hops_bad.Statement.{statement}
 use Rattle.reader.proofs.faults.hops_bad.Tie as tie
 
 hops-at-requires : tie.Need-hops-at-requires
-hops-at-requires c κs = search needs
+hops-at-requires c κs = tt
 
 is-outside-requires : tie.Need-is-outside-requires
-is-outside-requires c κs = search needs
+is-outside-requires c κs = tt
 
 returns : tie.Need-returns
 unfolding hopsBad

@@ -6,7 +6,7 @@ use Rattle.reader.proofs.faults.last_bad.Statement.{statement}
 use Rattle.reader.proofs.faults.last_bad.Tie as tie
 
 hops-at-requires : tie.Need-hops-at-requires
-hops-at-requires c κs = search needs
+hops-at-requires c κs = tt
 
 cast-last : tie.Need-cast-last
 cast-last c = search needs
@@ -15,13 +15,13 @@ add-last : tie.Need-add-last
 add-last c = search needs
 
 record-at-requires : tie.Need-record-at-requires
-record-at-requires c κs = search needs
+record-at-requires c κs = tt
 
 byte-at-requires : tie.Need-byte-at-requires
-byte-at-requires c κs = search needs
+byte-at-requires c κs = tt
 
 is-outside-requires : tie.Need-is-outside-requires
-is-outside-requires c κs = search needs
+is-outside-requires c κs = tt
 
 returns : tie.Need-returns
 returns c =

@@ -11,13 +11,13 @@ unfolding ownerBad
 returns c = rw (c .if1 .taken)
 
 owner-at-requires : tie.Need-owner-at-requires
-owner-at-requires c κs = search needs
+owner-at-requires c κs = tt
 
 sub-owner-at : tie.Need-sub-owner-at
 sub-owner-at c = search needs
 
 owner-at-requires-2 : tie.Need-owner-at-requires-2
-owner-at-requires-2 c κs = search needs
+owner-at-requires-2 c κs = tt
 
 returns-2 : tie.Need-returns-2
 returns-2 c = owner-bad-later _ _ (c .before .before .if1 .left) (c .before .owner-at .ensures) (c .owner-at2 .ensures)

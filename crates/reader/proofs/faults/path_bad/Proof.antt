@@ -4,7 +4,6 @@ use mathlib.Core.Path.{_≡_, refl, ap, _∙_}
 use mathlib.Core.Bool.{false}
 use Prim.Native.Nat.{ℕ, _+_, _≤_, _-_}
 use native.Mathlib.Omega.{arith}
-use borrow.Author.Needs.{needs}
 use Rattle.lists.specs.Search.{anyBelow}
 use Rattle.rules.specs.Table.{records, hopsOf, rankOf, hopsAt, rankAt}
 use Rattle.laws.specs.TableLaws.{samePath, block-fits, block-start, path-hit, path-next, path-end}
@@ -42,7 +41,7 @@ alone-requires : tie.Need-alone-requires Inv-loop μ-loop
 alone-requires c κs = c .before .pre .0
 
 hops-at-requires : tie.Need-hops-at-requires Inv-loop μ-loop
-hops-at-requires c κs = search needs
+hops-at-requires c κs = tt
 
 cast-count : tie.Need-cast-count Inv-loop μ-loop
 cast-count c = omega arith
@@ -58,7 +57,7 @@ unfolding records
 add-j c = omega arith
 
 rank-at-requires : tie.Need-rank-at-requires Inv-loop μ-loop
-rank-at-requires c κs = search needs
+rank-at-requires c κs = tt
 
 cast-j : tie.Need-cast-j Inv-loop μ-loop
 cast-j c = omega arith
@@ -78,7 +77,7 @@ front-at-requires-2 c κs =
     (omega (arith, start hops .pre .0), omega (arith, start hops .pre .1, hops-read hops))
 
 same-parts-requires : tie.Need-same-parts-requires Inv-loop μ-loop
-same-parts-requires c κs = search needs
+same-parts-requires c κs = tt
 
 -- what the comparison tells of the records i and j
 looked : (c : tie.After-same-parts Inv-loop μ-loop)

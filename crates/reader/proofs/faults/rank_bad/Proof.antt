@@ -6,7 +6,7 @@ use Rattle.reader.proofs.faults.rank_bad.Statement.{statement}
 use Rattle.reader.proofs.faults.rank_bad.Tie as tie
 
 rank-at-requires : tie.Need-rank-at-requires
-rank-at-requires c κs = search needs
+rank-at-requires c κs = tt
 
 returns : tie.Need-returns
 returns c = rank-high _ _ _ (c .before .rank-at .ensures) (c .if1 .taken)
@@ -15,7 +15,7 @@ cast-result : tie.Need-cast-result
 cast-result c = search needs
 
 rank-due-requires : tie.Need-rank-due-requires
-rank-due-requires c κs = search needs
+rank-due-requires c κs = tt
 
 returns-2 : tie.Need-returns-2
 returns-2 c = rank-other _ _ _ (c .before .before .rank-at .ensures) _ (c .before .if1 .left) (c .rank-due .ensures)

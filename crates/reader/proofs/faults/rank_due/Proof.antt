@@ -11,13 +11,13 @@ unfolding rankDue
 returns c = rw (c .if1 .taken)
 
 owner-at-requires : tie.Need-owner-at-requires
-owner-at-requires c κs = search needs
+owner-at-requires c κs = tt
 
 sub-owner-at : tie.Need-sub-owner-at
 sub-owner-at c = search needs
 
 owner-at-requires-2 : tie.Need-owner-at-requires-2
-owner-at-requires-2 c κs = search needs
+owner-at-requires-2 c κs = tt
 
 returns-2 : tie.Need-returns-2
 returns-2 c =
@@ -28,7 +28,7 @@ sub-rank-at : tie.Need-sub-rank-at
 sub-rank-at c = search needs
 
 rank-at-requires : tie.Need-rank-at-requires
-rank-at-requires c κs = search needs
+rank-at-requires c κs = tt
 
 cast-result : tie.Need-cast-result
 cast-result c = search needs

@@ -1,17 +1,16 @@
 -- `reader::faults::twice_bad` meets its contract: the test is that of the path.
 -- Assumes nothing.
 use mathlib.Core.Path.{_∙_, ap}
-use borrow.Author.Needs.{needs}
 use Rattle.lists.specs.Search.{twice}
 use Rattle.rules.specs.Refusals.{twiceBad}
 use Rattle.reader.proofs.faults.twice_bad.Statement.{statement}
 use Rattle.reader.proofs.faults.twice_bad.Tie as tie
 
 path-at-requires : tie.Need-path-at-requires
-path-at-requires c κs = search needs
+path-at-requires c κs = tt
 
 has-twice-requires : tie.Need-has-twice-requires
-has-twice-requires c κs = search needs
+has-twice-requires c κs = tt
 
 returns : tie.Need-returns
 unfolding twiceBad

@@ -25,7 +25,7 @@ shared-slice-read-is-outside : tie.Need-shared-slice-read-is-outside Inv-loop μ
 shared-slice-read-is-outside c = omega arith
 
 is-outside-requires : tie.Need-is-outside-requires Inv-loop μ-loop
-is-outside-requires c κs = omega arith
+is-outside-requires c κs = tt
 
 loop-less : tie.Need-loop-less Inv-loop μ-loop
 loop-less c = omega arith

@@ -1,12 +1,11 @@
 -- `reporter::followers::next_from` meets its contract: two cases.
 -- Assumes nothing.
-use borrow.Author.Needs.{needs}
 use Rattle.reporter.specs.ShowingLaws.{next-stuck, next-other}
 use Rattle.reporter.proofs.followers.next_from.Statement.{statement}
 use Rattle.reporter.proofs.followers.next_from.Tie as tie
 
 next-at-requires : tie.Need-next-at-requires
-next-at-requires c κs = search needs
+next-at-requires c κs = tt
 
 returns : tie.Need-returns
 returns c = next-stuck _ _ _ _ (c .before .if1 .taken) (c .next-at .ensures)

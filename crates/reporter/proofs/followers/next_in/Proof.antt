@@ -30,7 +30,7 @@ shared-slice-read-next-from-2 : tie.Need-shared-slice-read-next-from-2 Inv-loop 
 shared-slice-read-next-from-2 c = omega arith
 
 next-from-requires : tie.Need-next-from-requires Inv-loop μ-loop
-next-from-requires c κs = omega arith
+next-from-requires c κs = tt
 
 array-write-next : tie.Need-array-write-next Inv-loop μ-loop
 array-write-next c = omega arith

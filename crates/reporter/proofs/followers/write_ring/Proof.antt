@@ -7,7 +7,7 @@ use Rattle.reporter.proofs.followers.write_ring.Statement.{statement}
 use Rattle.reporter.proofs.followers.write_ring.Tie as tie
 
 clear-requires : tie.Need-clear-requires
-clear-requires c κs = search needs
+clear-requires c κs = tt
 
 same-length : tie.Need-same-length
 same-length c = search needs
@@ -35,7 +35,7 @@ slice-aggregate-find-ring-2 : tie.Need-slice-aggregate-find-ring-2
 slice-aggregate-find-ring-2 c = search needs
 
 find-ring-requires : tie.Need-find-ring-requires
-find-ring-requires c κs = search needs
+find-ring-requires c κs = tt
 
 same-length-2 : tie.Need-same-length-2
 same-length-2 c = search needs

@@ -20,7 +20,7 @@ index-1-steady-slot-to : tie.Need-index-1-steady-slot-to
 index-1-steady-slot-to c = search needs
 
 steady-slot-to-requires : tie.Need-steady-slot-to-requires
-steady-slot-to-requires c κs = search needs
+steady-slot-to-requires c κs = tt
 
 returns-3 : tie.Need-returns-3
 returns-3 c =

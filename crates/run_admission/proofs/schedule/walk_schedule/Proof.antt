@@ -16,7 +16,7 @@ abbrev μ-loop : tie.MeasureT-loop
 μ-loop nexts schedule all stamps₀ rounds₀ i₀ stamps rounds i = length schedule / 2 - i
 
 count-pairs-requires : tie.Need-count-pairs-requires Inv-loop μ-loop
-count-pairs-requires c κs = omega arith
+count-pairs-requires c κs = tt
 
 loop-holds : tie.Need-loop-holds Inv-loop μ-loop
 loop-holds c = (omega arith, walk-start _ _ _ (c .count-pairs .ensures))
@@ -37,7 +37,7 @@ shared-slice-read-number-of-2 : tie.Need-shared-slice-read-number-of-2 Inv-loop 
 shared-slice-read-number-of-2 c = omega arith
 
 number-of-requires : tie.Need-number-of-requires Inv-loop μ-loop
-number-of-requires c κs = omega arith
+number-of-requires c κs = tt
 
 returns : tie.Need-returns Inv-loop μ-loop
 returns c =
@@ -52,7 +52,7 @@ slice-aggregate-activate c =
     omega (arith, i .1 .size)
 
 activate-requires : tie.Need-activate-requires Inv-loop μ-loop
-activate-requires c κs = omega arith
+activate-requires c κs = tt
 
 add-i : tie.Need-add-i Inv-loop μ-loop
 add-i c = omega arith
