@@ -1,4 +1,4 @@
-// The rows that a mark and a record number for each vertex show, for any bytes: each vertex writes only its own 16 bytes.
+// The rows that a mark and a record number for each vertex show, for any bytes; each vertex writes its own 16 bytes.
 ghost use mathlib.Core.Path.{_≡_};
 ghost use Prim.Native.Nat.{_≤_, pred};
 ghost use lib.ListN.{length};

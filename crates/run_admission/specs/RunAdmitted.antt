@@ -18,7 +18,7 @@ use Rattle.pairs.specs.NextHops.{Rows}
 unfoldable pub refused : ℕ → ℕ → RunAnswer
 refused n k = record { verdict = Refused n k; steps = 0; ups = 0; downs = 0; last = 0; rounds = 0 }
 
--- an accepted table, a state of its length and a schedule that listens throughout, with where the slots lead and the rounds
+-- an accepted table, a state of its length and a schedule that listens throughout; where the slots lead, the rounds
 pub record Ready (t heard s : List ℕ) (nexts : List (List ℕ)) (closed : ℕ) : Type 0 where
   pub accepted : refusal t ≡ none
   pub long : length heard ≡ 4096
@@ -27,7 +27,7 @@ pub record Ready (t heard s : List ℕ) (nexts : List (List ℕ)) (closed : ℕ)
   pub rows : Rows (pathsOf t) nexts
   pub rounds : closed ≡ run (pathsOf t) heard (pairsIn s) .rounds
 
--- the verdict for all inputs, and the whole answer of a refused run; what is found on the way is told where it is accepted
+-- the verdict for all inputs, the whole answer of a refused run, and what an accepted one may rely on
 pub record RunAdmitted (t heard s : List ℕ) (sums : List ℤ) (a : RunAnswer) (nexts : List (List ℕ)) : Type 0 where
   pub judged : runRefusalIn (a .verdict) ≡ runRefusal t heard s sums
   pub zeros : (r : Refusal) → runRefusal t heard s sums ≡ some r → a ≡ refused (r .number) (r .place)

@@ -1,4 +1,4 @@
--- Laws of the walk over a schedule: the number of a pair, the start, a pair that does not listen, one more that does, the end.
+-- Laws of the walk over a schedule: a pair's number, the start, a pair that does not listen, one that does, the end.
 use mathlib.Core.Path.{_≡_, refl, sym, ap, _∙_}
 use mathlib.Core.Logic.{_≢_}
 use mathlib.Core.Bool.{Bool, true, false, not}

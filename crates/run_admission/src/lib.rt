@@ -1,5 +1,5 @@
-// What is judged before a run stores anything: the lengths, the table, the state and the whole schedule, whose rounds are counted
-// on the way, since they do not go by what is heard.
+// What is judged before a run stores anything: the lengths, the table, the state and the whole schedule. Its rounds are
+// counted on the way, since they do not go by what is heard.
 mod schedule;
 
 ghost use mathlib.Core.Path.{_≡_};
@@ -75,7 +75,8 @@ fn admit_accepted(
     }
 }
 
-// Judges a run in the order of the rules: a refusal, or accepted with its rounds and no step yet, and the rows of next hops.
+// Judges a run in the order of the rules: a refusal, or accepted with its rounds and no step yet. Where the slots lead is
+// left in the lent rows; what a refused run leaves there is open.
 pub fn admit_run(
     table: &[u8],
     heard: &[u8],

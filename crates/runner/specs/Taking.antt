@@ -19,7 +19,7 @@ speakerAt s i = getD s (2 * i + 1) 0
 abbrev pub offsetAt : List ℕ → ℕ → ℕ
 offsetAt s i = 64 * listenerAt s i + speakerAt s i
 
--- a pair of two vertices, buffers of the right length, and a sum of the listener that is the difference of two standings
+-- a pair of two vertices, buffers of the right length, and a sum of the listener that is no larger than a standing
 pub record Takes (s : List ℕ) (i : ℕ) (heard choices : List ℕ) (sums : List ℤ) : Type 0 where
   pub within : i < length s / 2
   pub short : length s ≤ 32768

@@ -6,7 +6,7 @@ use tally::Counts;
 use tally::counted;
 use tally::movement;
 
-// Works the pair with the number i, from 0: what u says is stored, v chooses, and its movement is added to its sum and counted.
+// Works the pair i, from 0: what u says is stored, v chooses, and its movement is added to its sum and counted.
 pub(crate) fn hear_pair(
     nexts: &[[u8; 16]; 64],
     asked: &[[u8; 16]; 64],

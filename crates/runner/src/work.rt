@@ -1,4 +1,4 @@
-// The run over an accepted schedule: what serves every step is found once, then the pairs are worked one after the other.
+// The run over an accepted schedule: what serves every step is found once, then pair after pair is worked.
 ghost use mathlib.Core.Path.{_≡_};
 ghost use Prim.Native.Nat.{_≤_};
 ghost use lib.ListN.{length};

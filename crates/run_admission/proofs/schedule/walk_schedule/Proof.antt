@@ -1,4 +1,4 @@
--- `run_admission::schedule::walk_schedule` meets its contract: all pairs before i listen, and the stamps are those of the run.
+-- `run_admission::schedule::walk_schedule` meets its contract: before i all listen, and the stamps are the run's.
 -- Assumes nothing.
 use Prim.Native.Nat.{_≤_, _-_, _/_}
 use native.Mathlib.Omega.{arith}

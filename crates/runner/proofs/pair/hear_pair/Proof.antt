@@ -1,4 +1,4 @@
--- `runner::pair::hear_pair` meets its contract: the byte is there already, or the movement is read back from its bits and its sum fits.
+-- `runner::pair::hear_pair` meets its contract: the byte is there already, or the movement's sum fits.
 -- Assumes nothing.
 use native.Mathlib.Omega.{arith}
 use borrow.Author.Needs.{needs}
