@@ -109,12 +109,20 @@ pub all-written : (t marks shown rows : List ℕ) (v : ℕ)
 all-written t marks shown rows v l e come =
     sym (take-all (v * 16) rows (omega arith)) ∙ come ∙ ap (blocks (shownRow t marks shown)) e
 
--- by the room that there is
+-- by the room that there is, and the marks and records
 module _ (t marks shown before : List ℕ) where
-  pub rows-whole : length before ≡ 1024 → shownRows t marks shown before ≡ blocks (shownRow t marks shown) 64
+  pub rows-whole : length before ≡ 1024 → length marks ≡ 64 → length shown ≡ 64 → shownRows t marks shown before ≡ blocks (shownRow t marks shown) 64
   unfolding shownRows
-  rows-whole e = rw (eq-eqb (length before) 1024 e, shownRows)
+  rows-whole e m n = rw (eq-eqb (length before) 1024 e, eq-eqb (length marks) 64 m, eq-eqb (length shown) 64 n, shownRows)
 
   pub rows-other : length before ≢ 1024 → shownRows t marks shown before ≡ before
   unfolding shownRows
   rows-other f = rw (ne-eqb (length before) 1024 f, shownRows)
+
+  pub rows-marks : length before ≡ 1024 → length marks ≢ 64 → shownRows t marks shown before ≡ before
+  unfolding shownRows
+  rows-marks e f = rw (eq-eqb (length before) 1024 e, ne-eqb (length marks) 64 f, shownRows)
+
+  pub rows-records : length before ≡ 1024 → length marks ≡ 64 → length shown ≢ 64 → shownRows t marks shown before ≡ before
+  unfolding shownRows
+  rows-records e m f = rw (eq-eqb (length before) 1024 e, eq-eqb (length marks) 64 m, ne-eqb (length shown) 64 f, shownRows)

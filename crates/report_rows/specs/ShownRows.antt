@@ -2,7 +2,7 @@
 -- The mark is the row's byte 0: the stage, 254 for absent, 255 for stuck. The record is that of the path that the vertex shows;
 -- 65,535 for none.
 use Prim.Native.Nat.{ℕ}
-use mathlib.Core.Bool.{true, false}
+use mathlib.Core.Bool.{true, false, _&&_}
 use mathlib.Core.List.{List, [], _∷_}
 use lib.ListN.{getD, length}
 use lib.Dec.{eqb}
@@ -18,6 +18,7 @@ recordRow t mark i = rowBytes mark (rankAt t i) (pathAt t i)
 unfoldable pub shownRow : List ℕ → List ℕ → List ℕ → ℕ → List ℕ
 shownRow t marks shown v = elim (eqb v 0) [ true ↦ rowBytes 0 0 (0 ∷ []) | false ↦ recordRow t (getD marks v 254) (getD shown v 65535) ]
 
--- all rows, where there are 1,024 bytes for them; other bytes stay as they are
+-- all rows, where there are 64 marks and records and 1,024 bytes for them; other bytes stay as they are
 unfoldable pub shownRows : List ℕ → List ℕ → List ℕ → List ℕ → List ℕ
-shownRows t marks shown before = elim (eqb (length before) 1024) [ true ↦ blocks (shownRow t marks shown) 64 | false ↦ before ]
+shownRows t marks shown before =
+    elim (eqb (length before) 1024 && (eqb (length marks) 64 && eqb (length shown) 64)) [ true ↦ blocks (shownRow t marks shown) 64 | false ↦ before ]

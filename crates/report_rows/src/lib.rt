@@ -64,12 +64,18 @@ fn fill_rows(table: &[u8], marks: &[u8], shown: &[u16], rows: &mut [u8])
     }
 }
 
-// Writes the rows where there is room for just them; other bytes stay as they are.
-pub fn write_rows(table: &[u8], marks: [u8; 64], shown: [u16; 64], rows: &mut [u8])
-    ensures { λ r. ⌜ now (rows .exit) ≡ shownRows (now (table .entry)) marks shown (now (rows .entry)) ⌝ }
+// Writes the rows of 64 marks and records where there is room for just them; other bytes stay as they are.
+pub fn write_rows(table: &[u8], marks: &[u8], shown: &[u16], rows: &mut [u8])
+    ensures { λ r. ⌜ now (rows .exit) ≡ shownRows (now (table .entry)) (now (marks .entry)) (now (shown .entry)) (now (rows .entry)) ⌝ }
 {
     if rows.len() != ROWS {
         return;
     }
-    fill_rows(table, &marks, &shown, rows);
+    if marks.len() != VERTICES {
+        return;
+    }
+    if shown.len() != VERTICES {
+        return;
+    }
+    fill_rows(table, marks, shown, rows);
 }

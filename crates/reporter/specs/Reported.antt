@@ -119,6 +119,8 @@ ring-none marks next {size} e q =
 -- the report of marks and records
 module _ (t marks shown : List ℕ) (stages : ℕ) (rows ring : List ℕ) (long : length rows ≡ 1024) (many : length ring ≡ 64) where
   pub reported-shown : {v : Verdict} {a b l count : ℕ} {rowsNow ringNow : List ℕ}
+      → length marks ≡ 64
+      → length shown ≡ 64
       → rowsNow ≡ shownRows t marks shown rows
       → Ringed (stuckMarks marks) (nextNumbers t (stuckMarks marks) shown) (length ring) count ringNow
       → Found v count
@@ -128,9 +130,9 @@ module _ (t marks shown : List ℕ) (stages : ℕ) (rows ring : List ℕ) (long 
       → Reported (lentRefusal rows ring) (shownReport t marks shown stages) rows ring
       (record { verdict = v; settled = a; stuck = b; stages = stages; longest = l }) rowsNow ringNow
   unfolding rules.verdict unless says.numbers shownReport shownRing
-  reported-shown r g f x y z = let well = lent-well rows ring long many in record {
+  reported-shown m n r g f x y z = let well = lent-well rows ring long many in record {
     verdict = f .said ∙ ap verdictOf (g .count) ∙ rw well;
     numbers = rw (well, f .length ∙ g .count, x, y, z);
-    rows = r ∙ rows-whole t marks shown rows long ∙ rw well;
+    rows = r ∙ rows-whole t marks shown rows long m n ∙ rw well;
     ring = g .ring ∙ rw (well, many);
   }

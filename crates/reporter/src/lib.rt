@@ -71,7 +71,7 @@ pub fn report(
     if ring.len() != RING {
         return refused(OTHER_LENGTH, 0);
     }
-    write_rows(table, marks, shown, rows);
+    write_rows(table, &marks, &shown, rows);
     let waiting = count_between(STUCK, STUCK, &marks);
     let count = write_ring(table, &marks, &shown, waiting, ring);
     Answer {
