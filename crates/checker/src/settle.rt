@@ -14,7 +14,7 @@ use table_facts::present_in;
 const ORIGIN: u8 = 0;
 
 // The marks and records after the last stage, and how many stages counted.
-#[derive(Drop)]
+#[derive(Clone, Copy)]
 pub(crate) struct Settling {
     pub(crate) marks: [u8; 64],
     pub(crate) shown: [u16; 64],

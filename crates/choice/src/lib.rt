@@ -12,7 +12,7 @@ use table_facts::SLOTS;
 const DESTINATION_CHOICE: u8 = 1;
 
 // The slot that was found, or none.
-#[derive(Drop)]
+#[derive(Clone, Copy)]
 enum Found {
     Slot(u8),
     Nothing,

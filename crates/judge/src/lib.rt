@@ -23,7 +23,7 @@ pub const VERTICES: usize = 64;
 const SLOTS: usize = 16;
 
 // A mark for each vertex (its stage, 254 absent, 255 waiting) and the record of the path that it holds or waits for.
-#[derive(Drop)]
+#[derive(Clone, Copy)]
 pub struct Standing {
     pub marks: [u8; 64],
     pub shown: [u16; 64],

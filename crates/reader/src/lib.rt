@@ -12,7 +12,7 @@ use record_fields::RECORD_BYTES;
 const MOST_BYTES: usize = 16128;
 
 // A table is accepted, or refused with number and place.
-#[derive(Drop)]
+#[derive(Clone, Copy)]
 pub enum Reading {
     Accepted,
     Refused(u8, usize),

@@ -48,7 +48,7 @@ fn place_of(v: u8, part: &[u8]) -> usize
 }
 
 // The places of the closed part among the vertices walked.
-#[derive(Drop)]
+#[derive(Clone, Copy)]
 struct Closed {
     from: usize,
     to: usize,

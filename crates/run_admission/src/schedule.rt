@@ -10,7 +10,7 @@ use tally::{Rounds, activate};
 const NO_PAIR: usize = 1024;
 
 // How many pairs listen before the first that does not, and the rounds that they close.
-#[derive(Drop)]
+#[derive(Clone, Copy)]
 pub(crate) struct Walk {
     pub(crate) pairs: usize,
     pub(crate) rounds: u16,

@@ -12,7 +12,7 @@ const MOST_ROUNDS: u16 = 65535;
 const STANDING_OF_RANK_0: u8 = 17;
 
 // The counts so far.
-#[derive(Drop)]
+#[derive(Clone, Copy)]
 pub struct Counts {
     pub ups: u32,
     pub downs: u32,
@@ -20,7 +20,7 @@ pub struct Counts {
 }
 
 // The rounds closed, and how many listening pairs are missing in the open one.
-#[derive(Drop)]
+#[derive(Clone, Copy)]
 pub struct Rounds {
     pub closed: u16,
     pub missing: u16,

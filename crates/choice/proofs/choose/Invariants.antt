@@ -1,0 +1,10 @@
+use Prim.Native.Nat.{◌≤◌, ◌-◌}
+use native.Mathlib.Omega.{arith}
+use Rattle.choice.specs.ChoosingLaws.{Searched, searched_none, choose_empty, choose_end, choose_hit, choose_next}
+use Rattle.choice.proofs.choose.Given as goal
+
+abbrev pub invariant-loop-k : goal.invariant-loop-k
+invariant-loop-k l = (l.k ≤ 16) × Searched l.nexts l.asked l.heard l.v l.k
+
+abbrev pub decreases-loop-k : goal.decreases-loop-k
+decreases-loop-k l = 16 - l.k

@@ -1,0 +1,16 @@
+use mathlib.Core.Path.{◌≡◌, refl}
+use mathlib.Core.Bool.{true, false}
+use Prim.Native.Nat.{◌≤◌, ◌-◌}
+use native.Mathlib.Omega.{arith}
+use borrow.Kind.Array.{good_length, e_int}
+use mir.Syntax.{w16}
+use lib.ListN.{length, drop}
+use Rattle.judge.specs.Standing.{best_record}
+use Rattle.judge.specs.StandingLaws.{records_end, records_hit, records_next, records_none, look_compatible}
+use Rattle.judge.proofs.best_record.Given as goal
+
+abbrev pub invariant-loop-k : goal.invariant-loop-k
+invariant-loop-k l = (length l.slots ≡ 16) × (l.k ≤ 16) × (best_record l.table l.marks l.shown (drop l.k l.slots) ≡ best_record l.table l.marks l.shown l.slots)
+
+abbrev pub decreases-loop-k : goal.decreases-loop-k
+decreases-loop-k l = 16 - l.k

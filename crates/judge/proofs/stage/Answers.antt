@@ -1,0 +1,37 @@
+-- `judge::stage` meets its contract: the marks and records below v are new.
+-- Assumes nothing.
+use mathlib.Core.Path.{sym, ◌∙◌}
+use mathlib.Core.List.{map}
+use Prim.Native.Nat.{◌-◌}
+use native.Mathlib.Omega.{arith}
+use borrow.Author.Tests.{not-true, not-false}
+use borrow.Kind.Array.{good_length, e_int}
+use mir.Syntax.{w8, w16}
+use lib.ListN.{length-map}
+use Rattle.judge.specs.StandingLaws.{Judged, judged_none, judged_skip, judged_wait, judged_enter, judged_all}
+use Rattle.judge.proofs.stage.Goals as goal
+
+pub loop-v-init : goal.loop-v-init
+loop-v-init c =
+    let given = c.args.before in
+    let good = c.well_formed.1.1.0.1.1 in
+    let marks = sym (length-map given.marks (λ n. n)) ∙ good_length (e_int w8) 64 (map (λ n. n) given.marks) _ good.0 in
+    let shown = sym (length-map given.shown (λ n. n)) ∙ good_length (e_int w16) 64 (map (λ n. n) given.shown) _ good.1.0 in
+    judged_none _ _ _ _ _ marks shown
+
+pub loop-v-preserved-then-not-is_judged : goal.loop-v-preserved-then-not-is_judged
+loop-v-preserved-then-not-is_judged c =
+    judged_skip c.loop-v.invariant c.loop-v-test.true c.is_judged.ensures (not-true _ c.if-not-is_judged.true)
+
+pub loop-v-preserved-then-not-enters : goal.loop-v-preserved-then-not-enters
+loop-v-preserved-then-not-enters c =
+    judged_wait c.loop-v.invariant c.loop-v-test.true c.is_judged.ensures (not-false _ c.if-not-is_judged.false)
+    c.best_record-best.ensures c.enters.ensures (not-true _ c.if-not-enters.true)
+
+pub loop-v-preserved : goal.loop-v-preserved
+loop-v-preserved c =
+    judged_enter c.loop-v.invariant c.loop-v-test.true c.is_judged.ensures (not-false _ c.if-not-is_judged.false)
+    c.best_record-best.ensures c.enters.ensures (not-false _ c.if-not-enters.false)
+
+pub returns : goal.returns
+returns c = judged_all c.loop-v.invariant (omega arith)

@@ -1,0 +1,14 @@
+use mathlib.Core.Path.{◌≡◌, refl}
+use Prim.Native.Nat.{◌≤◌, ◌-◌}
+use native.Mathlib.Omega.{arith}
+use borrow.Author.Tests.{ne_eqb}
+use Rattle.lists.specs.Search.{first_from}
+use Rattle.lists.specs.SearchLaws.{search_next}
+use Rattle.pairs.specs.NextHopLaws.{there, slot_hit, slot_end}
+use Rattle.pairs.proofs.slot_to.Given as goal
+
+abbrev pub invariant-loop-k : goal.invariant-loop-k
+invariant-loop-k l = (l.k ≤ 16) × (first_from (there l.nexts l.u) l.k (16 - l.k) ≡ first_from (there l.nexts l.u) 0 16)
+
+abbrev pub decreases-loop-k : goal.decreases-loop-k
+decreases-loop-k l = 16 - l.k

@@ -1,0 +1,12 @@
+-- `record_fields::hops_at` meets its contract: it is byte 1 of the record.
+-- Assumes nothing.
+use mathlib.Core.Path.{◌∙◌, ap}
+use mathlib.Core.List.{List}
+use Prim.Native.Nat.{ℕ}
+use lib.ListN.{get_or}
+use Rattle.rules.specs.Table.{hops_of}
+use Rattle.record_fields.proofs.hops_at.Goals as goal
+
+pub returns : goal.returns
+unfolding hops_of
+returns c = c.byte_at.ensures ∙ ap (λ (l : List ℕ). get_or l 1 0) c.record_at.ensures

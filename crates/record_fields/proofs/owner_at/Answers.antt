@@ -1,0 +1,12 @@
+-- `record_fields::owner_at` meets its contract: it is byte 2 of the record.
+-- Assumes nothing.
+use mathlib.Core.Path.{◌∙◌, ap}
+use mathlib.Core.List.{List}
+use Prim.Native.Nat.{ℕ}
+use lib.ListN.{get_or}
+use Rattle.rules.specs.Table.{owner_of}
+use Rattle.record_fields.proofs.owner_at.Goals as goal
+
+pub returns : goal.returns
+unfolding owner_of
+returns c = c.byte_at.ensures ∙ ap (λ (l : List ℕ). get_or l 2 0) c.record_at.ensures

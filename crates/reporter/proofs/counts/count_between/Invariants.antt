@@ -1,0 +1,13 @@
+use mathlib.Core.Path.{◌≡◌}
+use Prim.Native.Nat.{◌≤◌, ◌-◌}
+use native.Mathlib.Omega.{arith}
+use Rattle.lists.specs.Search.{count_below}
+use Rattle.reporter.specs.Showing.{is_between, count_between}
+use Rattle.reporter.specs.ShowingLaws.{count_none, count_skip, count_more, count_small}
+use Rattle.reporter.proofs.counts.count_between.Given as goal
+
+abbrev pub invariant-loop-v : goal.invariant-loop-v
+invariant-loop-v l = (1 ≤ l.v) × (l.v ≤ 64) × (l.count ≡ count_below (is_between l.low l.high l.marks) l.v)
+
+abbrev pub decreases-loop-v : goal.decreases-loop-v
+decreases-loop-v l = 64 - l.v

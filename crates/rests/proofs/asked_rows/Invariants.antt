@@ -1,0 +1,19 @@
+use mathlib.Core.Path.{◌≡◌, refl, sym, ap, ◌∙◌}
+use mathlib.Core.List.{List}
+use Prim.Native.Nat.{ℕ, ◌≤◌, ◌-◌}
+use native.Mathlib.Omega.{arith}
+use lib.ListN.{length, take, replicate, length-set, length-replicate}
+use Rattle.lists.specs.Fill.{tabulate}
+use Rattle.lists.specs.FillLaws.{tabulate_none, fill_more, fill_end}
+use Rattle.pairs.specs.SlotPaths.{held_in}
+use Rattle.pairs.specs.SlotPathLaws.{held_vertex}
+use Rattle.rests.specs.Rests.{asked_row}
+use Rattle.rests.proofs.asked_rows.Given as goal
+
+abbrev pub invariant-loop-v : goal.invariant-loop-v
+invariant-loop-v l = (l.v ≤ 64)
+    × (length l.asked ≡ 64)
+    × (take l.v l.asked ≡ tabulate (λ w. asked_row (held_in l.table l.slots) (held_in l.table l.slots w)) l.v)
+
+abbrev pub decreases-loop-v : goal.decreases-loop-v
+decreases-loop-v l = 64 - l.v

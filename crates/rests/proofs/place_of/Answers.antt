@@ -1,0 +1,36 @@
+-- `rests::place_of` meets its contract: no path before slot k is the path.
+-- Assumes nothing.
+use mathlib.Core.Path.{sym, ap, ◌∙◌}
+use Prim.Native.Nat.{◌≤◌, ◌-◌}
+use native.Mathlib.Omega.{arith}
+use borrow.Kind.Array.{good_length, e_int}
+use mir.Syntax.{w16}
+use Rattle.rules.specs.Table.{path_at}
+use Rattle.rests.specs.Rests.{Scanned}
+use Rattle.rests.specs.RestLaws.{scanned_none, scanned_next, place_empty, place_hit, place_end}
+use Rattle.rests.proofs.place_of.Goals as goal
+
+pub loop-k-init : goal.loop-k-init
+loop-k-init c =
+    c in (omega arith, scanned_none (good_length (e_int w16) 16 a.args.t3 _ a.well-formed.1.1.0))
+
+pub returns-then-i : goal.returns-then-i
+returns-then-i c = place_empty c.loop-k.invariant.1 (omega arith) c.if-i.true
+
+pub returns-then-same_parts : goal.returns-then-same_parts
+returns-then-same_parts c =
+    place_hit c.loop-k.invariant.1 _ (omega arith) c.if-i.false
+    (c.path_at.ensures ∙ ap (path_at _) c.wide.ensures)
+    (sym c.same_parts.ensures ∙ c.if-same_parts.true)
+
+pub loop-k-preserved : goal.loop-k-preserved
+loop-k-preserved c =
+    (
+      omega arith,
+      scanned_next c.loop-k.invariant.1 _ (omega arith) c.if-i.false
+          (c.path_at.ensures ∙ ap (path_at _) c.wide.ensures)
+          (sym c.same_parts.ensures ∙ c.if-same_parts.false),
+    )
+
+pub returns : goal.returns
+returns c = place_end c.loop-k.invariant.1 (omega arith)

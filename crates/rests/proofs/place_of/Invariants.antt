@@ -1,0 +1,15 @@
+use mathlib.Core.Path.{sym, ap, ◌∙◌}
+use Prim.Native.Nat.{◌≤◌, ◌-◌}
+use native.Mathlib.Omega.{arith}
+use borrow.Kind.Array.{good_length, e_int}
+use mir.Syntax.{w16}
+use Rattle.rules.specs.Table.{path_at}
+use Rattle.rests.specs.Rests.{Scanned}
+use Rattle.rests.specs.RestLaws.{scanned_none, scanned_next, place_empty, place_hit, place_end}
+use Rattle.rests.proofs.place_of.Given as goal
+
+abbrev pub invariant-loop-k : goal.invariant-loop-k
+invariant-loop-k l = (l.k ≤ 16) × Scanned l.table l.row l.path l.k
+
+abbrev pub decreases-loop-k : goal.decreases-loop-k
+decreases-loop-k l = 16 - l.k

@@ -1,0 +1,17 @@
+-- `runner::run_schedule` meets its contract: by the verdict of the admission it is refused, or worked.
+-- Assumes nothing.
+use mathlib.Core.Path.{refl}
+use borrow.Author.Rules.{rules}
+use Rattle.runner.specs.RanLaws.{ran_accepted, verdict_none, verdict_ready, verdict_refused}
+use Rattle.runner.proofs.run_schedule.Goals as goal
+
+pub returns-in_default : goal.returns-in_default
+returns-in_default c =
+    verdict_refused c.admit_run-admitted.ensures _ _ c.enum_told-in_default-1.given.1
+
+pub work-requires : goal.work-requires
+work-requires c = verdict_ready c.admit_run-admitted.ensures c.enum_told-1.given.1
+
+pub returns : goal.returns
+returns c =
+    ran_accepted _ _ _ _ _ _ _ (verdict_none c.admit_run-admitted.ensures c.enum_told-1.given.1) c.work.ensures

@@ -1,0 +1,14 @@
+-- `slices::is_outside` meets its contract: the two tests are those of `outside`.
+-- Assumes nothing.
+use mathlib.Core.Path.{sym}
+use borrow.Author.Tests.{le-ltb}
+use Rattle.lists.specs.Search.{outside}
+use Rattle.lists.specs.Tests.{below_out}
+use Rattle.slices.proofs.is_outside.Goals as goal
+
+pub returns-then-b-low : goal.returns-then-b-low
+returns-then-b-low c = sym (below_out _ _ _ c.if-b-low.true)
+
+pub returns : goal.returns
+unfolding outside
+returns c = rw (le-ltb _ _ c.if-b-low.false)

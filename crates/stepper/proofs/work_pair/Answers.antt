@@ -1,0 +1,12 @@
+-- `stepper::work_pair` meets its contract: the bytes before and after give the movement.
+-- Assumes nothing.
+use native.Mathlib.Omega.{arith}
+use Rattle.stepper.specs.StepLaws.{pair_worked}
+use Rattle.stepper.proofs.work_pair.Goals as goal
+
+pub returns : goal.returns
+returns c =
+    let p = c.requires in
+    let h = c.hear-new.ensures in
+    pair_worked p.0 _ p.2 _ p.1 _ _ c.asked_row-asked.ensures c.asked_row-asking.ensures
+    _ _ _ _ c.choice_byte-old.ensures c.choice_byte-said.ensures h.stored h.chosen _ c.movement.ensures

@@ -1,0 +1,14 @@
+use mathlib.Core.Path.{◌≡◌, refl, sym}
+use Prim.Native.Nat.{◌≤◌, ◌-◌}
+use native.Mathlib.Omega.{arith}
+use Rattle.lists.specs.Search.{max_below}
+use Rattle.lists.specs.SearchLaws.{max_none}
+use Rattle.rules.specs.Table.{records, hops_at, longest}
+use Rattle.laws.specs.PassLaws.{hops_more}
+use Rattle.table_facts.proofs.longest_hops.Given as goal
+
+abbrev pub invariant-loop-i : goal.invariant-loop-i
+invariant-loop-i l = (l.count ≡ records l.table) × (l.i ≤ l.count) × (l.most ≡ max_below (hops_at l.table) l.i)
+
+abbrev pub decreases-loop-i : goal.decreases-loop-i
+decreases-loop-i l = l.count - l.i

@@ -1,0 +1,15 @@
+use mathlib.Core.Path.{◌≡◌, refl, sym, ap, ◌∙◌}
+use Prim.Native.Nat.{◌≤◌, ◌-◌}
+use native.Mathlib.Omega.{arith}
+use lib.ListN.{length}
+use Rattle.lists.specs.Fill.{tabulate}
+use Rattle.lists.specs.FillLaws.{tabulate_length}
+use Rattle.rules.specs.Table.{records}
+use Rattle.laws.specs.PassLaws.{named_below, names_none, names_more, names_all}
+use Rattle.table_facts.proofs.present_in.Given as goal
+
+abbrev pub invariant-loop-i : goal.invariant-loop-i
+invariant-loop-i l = (l.count ≡ records l.table) × (l.i ≤ l.count) × (l.named ≡ tabulate (named_below l.table l.i) 64)
+
+abbrev pub decreases-loop-i : goal.decreases-loop-i
+decreases-loop-i l = l.count - l.i

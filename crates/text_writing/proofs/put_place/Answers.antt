@@ -1,0 +1,32 @@
+-- `text_writing::put_place` meets its contract: each name by the number.
+-- Assumes nothing.
+use native.Mathlib.Omega.{arith}
+use borrow.Author.Rules.{rules}
+use Rattle.lists.specs.Tests.{is_inside, below_out, above_out}
+use Rattle.rules.specs.Text.{codes, labelled}
+use Rattle.laws.specs.TextLaws.{place_record, place_offset, place_pair, place_none}
+use Rattle.text_writing.specs.LayLaws.{laid_nothing, laid_as, laid_length}
+use Rattle.text_writing.proofs.put_place.Goals as goal
+
+pub returns-in-12 : goal.returns-in-12
+unfolding codes labelled
+returns-in-12 c = laid_as c.put_labelled.ensures (place_offset _ _ c.in_default-1.keys1)
+
+pub returns-in-14 : goal.returns-in-14
+unfolding codes labelled
+returns-in-14 c = laid_as c.put_labelled-in-14.ensures (place_pair _ _ c.in_default-1.keys2)
+
+pub returns-in-4-to-11 : goal.returns-in-4-to-11
+unfolding codes labelled
+returns-in-4-to-11 c =
+    laid_as c.put_labelled-in-4-to-11.ensures
+    (place_record _ _ (is_inside 4 11 _ (omega arith) (omega arith)))
+
+pub returns-in_default : goal.returns-in_default
+returns-in_default c =
+    laid_as (laid_nothing _ _) (place_none _ _ (below_out 4 11 _ (omega arith)) (λ e. omega arith) (λ e. omega arith))
+
+pub returns-in_default-2 : goal.returns-in_default-2
+returns-in_default-2 c =
+    let others = c.in_default-1.rest in
+    laid_as (laid_nothing _ _) (place_none _ _ (above_out 4 11 _ (omega arith)) others.0.1 others.1)

@@ -1,0 +1,10 @@
+use native.Mathlib.Omega.{arith}
+use lib.ListN.{length-set}
+use Rattle.text_writing.specs.DigitLaws.{Writing, writing_start, writing_more, writing_last, writing_full}
+use Rattle.text_writing.proofs.write_digits.Given as goal
+
+abbrev pub invariant-loop-at : goal.invariant-loop-at
+invariant-loop-at l = Writing l.n l.initial.digits l.digits l.rest l.at
+
+abbrev pub decreases-loop-at : goal.decreases-loop-at
+decreases-loop-at l = l.at

@@ -1,0 +1,14 @@
+use mathlib.Core.Path.{◌≡◌, sym, ◌∙◌}
+use Prim.Native.Nat.{◌≤◌, ◌-◌, ◌*◌}
+use native.Mathlib.Omega.{arith}
+use lib.ListN.{length, take}
+use Rattle.lists.specs.Parts.{part_length}
+use Rattle.rules.specs.Entries.{word_bytes}
+use Rattle.words.specs.WordLaws.{words_none, words_more, words_all}
+use Rattle.words.proofs.write_words.Given as goal
+
+abbrev pub invariant-loop-k : goal.invariant-loop-k
+invariant-loop-k l = (l.k ≤ length l.words) × (length l.bytes ≡ 4 * length l.words) × (take (l.k * 4) l.bytes ≡ word_bytes l.k l.words)
+
+abbrev pub decreases-loop-k : goal.decreases-loop-k
+decreases-loop-k l = length l.words - l.k
