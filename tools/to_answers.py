@@ -294,7 +294,7 @@ def turn(path, crate, names, keep_all):
                     odd.append(f"goal {name} is gone: {lines[-1].strip()[:60]}")
                 continue
             new, place = goals[name]
-            found = re.match(rf"[^\n]*\n((?:unfolding[^\n]*\n)?){re.escape(name)} ({IDENT})(?: {IDENT})*\s*=\s*(.*)$", joined, re.S)
+            found = re.match(rf"[^\n]*\n((?:unfolding[^\n]*\n)?){re.escape(name)} ({IDENT})(?: [^\s=]+)*\s*=\s*(.*)$", joined, re.S)
             if not found:
                 odd.append(f"goal {name}: not read: {joined[:200]}")
                 continue

@@ -15,7 +15,7 @@ returns-then-k-ge-HEARD_LENGTH c = byte_past _ _ _ c.if-b-eq0.false c.if-k-ge-HE
 
 pub returns-then-not-is_listening : goal.returns-then-not-is_listening
 returns-then-not-is_listening c =
-    byte_unheard _ _ _ c.if-b-eq0.false (sym c.is_listening.ensures ∙ not-true _ c.if-not-is_listening.true)
+    byte_unheard _ _ _ c.if-b-eq0.false (sym c.is_listening.ensures ∙ c.if-not-is_listening.true)
 
 pub can_speak-requires : goal.can_speak-requires
 can_speak-requires c =
@@ -24,5 +24,5 @@ can_speak-requires c =
 
 pub returns : goal.returns
 returns c =
-    byte_heard _ _ _ _ c.if-b-eq0.false (sym c.is_listening.ensures ∙ not-false _ c.if-not-is_listening.false)
+    byte_heard _ _ _ _ c.if-b-eq0.false (sym c.is_listening.ensures ∙ c.if-not-is_listening.false)
     c.can_speak.ensures

@@ -12,19 +12,19 @@ returns-then-numbers-ne-NUMBERS_LENGTH c = check_not_lent _ _ _ c.args.numbers.n
 pub returns-in-Complete : goal.returns-in-Complete
 returns-in-Complete c =
     check_complete _ _ _ c.args.numbers.now c.if-numbers-ne-NUMBERS_LENGTH.false _ _ _ c.check-answer.ensures 0 _ c.write_check.ensures refl
-    c.enum_told-1.given.1
+    c.in-Complete.is
 
 pub returns-in-Stuck : goal.returns-in-Stuck
 returns-in-Stuck c =
     check_stuck _ _ _ c.args.numbers.now c.if-numbers-ne-NUMBERS_LENGTH.false _ _ _ c.check-answer.ensures _ _ c.write_check-in-Stuck.ensures
-    c.verdict-1.given.1
+    c.in-Stuck.is
 
 pub overflow_cast-place : goal.overflow_cast-place
 overflow_cast-place c =
-    let small = check_small _ _ _ c.args.numbers.now c.if-numbers-ne-NUMBERS_LENGTH.false _ _ _ c.check-answer.ensures _ _ c.verdict-in-Refused-1.given.1 in
+    let small = check_small _ _ _ c.args.numbers.now c.if-numbers-ne-NUMBERS_LENGTH.false _ _ _ c.check-answer.ensures _ _ c.in-Refused.is in
     omega (arith, small)
 
 pub returns-in-Refused : goal.returns-in-Refused
 returns-in-Refused c =
-    check_refused _ _ _ c.args.numbers.now c.if-numbers-ne-NUMBERS_LENGTH.false _ _ _ c.check-answer.ensures _ _ c.verdict-in-Refused-1.given.1 _
+    check_refused _ _ _ c.args.numbers.now c.if-numbers-ne-NUMBERS_LENGTH.false _ _ _ c.check-answer.ensures _ _ c.in-Refused.is _
     c.code_of.ensures

@@ -10,15 +10,15 @@ pub returns-in-Complete : goal.returns-in-Complete
 unfolding codes
 returns-in-Complete c =
     laid_as (laid_then c.put_verdict-first.ensures c.put_rows.ensures)
-    (complete_text _ _ _ _ c.enum_told-1.given.1)
+    (complete_text _ _ _ _ c.in-Complete.is)
 
 pub returns-in-Stuck : goal.returns-in-Stuck
 unfolding codes
 returns-in-Stuck c =
     laid_as (laid_then (laid_then c.put_verdict-first-in-Stuck.ensures c.put_rows-last.ensures)
     c.put_ring.ensures)
-    (stuck_text _ _ _ _ _ c.verdict-1.given.1)
+    (stuck_text _ _ _ _ _ c.in-Stuck.is)
 
 pub returns-in-Refused : goal.returns-in-Refused
 returns-in-Refused c =
-    laid_as c.put_refused.ensures (refused_text _ _ _ _ _ _ c.verdict-in-Refused-1.given.1)
+    laid_as c.put_refused.ensures (refused_text _ _ _ _ _ _ c.in-Refused.is)

@@ -17,7 +17,7 @@ returns-then-ring-ne-RING c =
     checked_refused 1 0 (refused_ring _ _ c.args.ring.now (λ q. omega arith)) c.refused-then-ring-ne-RING.ensures
 
 pub check_accepted-requires : goal.check_accepted-requires
-check_accepted-requires c = reading_accepted _ (sym c.enum_told-1.given.1 ∙ c.read-reading.ensures)
+check_accepted-requires c = reading_accepted _ (sym c.in_default.is ∙ c.read-reading.ensures)
 
 pub returns-in_default : goal.returns-in_default
 returns-in_default c = c.check_accepted.ensures
@@ -26,5 +26,5 @@ pub returns : goal.returns
 returns c =
     checked_refused _ _
     (lent_right _ _ _ c.if-rows-ne-ROWS.false c.if-ring-ne-RING.false
-    ∙ reading_refused _ _ _ (sym c.reading-1.given.1 ∙ c.read-reading.ensures))
+    ∙ reading_refused _ _ _ (sym c.in-Refused.is ∙ c.read-reading.ensures))
     c.refused-2.ensures

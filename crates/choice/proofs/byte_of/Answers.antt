@@ -6,10 +6,10 @@ use Rattle.choice.specs.ChoosingLaws.{found_nothing, found_slot}
 use Rattle.choice.proofs.byte_of.Goals as goal
 
 pub returns-in_default : goal.returns-in_default
-returns-in_default c = found_nothing _ c.enum_told-1.given.1
+returns-in_default c = found_nothing _ c.in_default.is
 
 pub overflow_add-result : goal.overflow_add-result
-overflow_add-result c = omega (arith, found_slot _ _ c.found-1.given.1)
+overflow_add-result c = omega (arith, found_slot _ _ c.in-Slot.is)
 
 pub returns : goal.returns
-returns c = found_slot _ _ c.found-1.given.1
+returns c = found_slot _ _ c.in-Slot.is

@@ -23,4 +23,4 @@ loop-v-preserved c =
 
 pub returns : goal.returns
 unfolding choices_by
-returns c = c.loop-v.invariant in fill_end _ _ _ _ i.2 (sym i.1) (omega arith)
+returns c = let i = c.loop-v.invariant in fill_end _ _ _ _ i.2 (sym i.1) (omega arith)

@@ -4,8 +4,6 @@ use mathlib.Core.Path.{◌≡◌, refl}
 use mathlib.Core.Bool.{true, false}
 use Prim.Native.Nat.{◌≤◌, ◌-◌}
 use native.Mathlib.Omega.{arith}
-use borrow.Kind.Array.{good_length, e_int}
-use mir.Syntax.{w16}
 use lib.ListN.{length, drop}
 use Rattle.judge.specs.Standing.{best_record}
 use Rattle.judge.specs.StandingLaws.{records_end, records_hit, records_next, records_none, look_compatible}
@@ -13,7 +11,7 @@ use Rattle.judge.proofs.best_record.Goals as goal
 
 pub loop-k-init : goal.loop-k-init
 loop-k-init c =
-    (good_length (e_int w16) 16 c.args.t4 _ c.well_formed.1.1.1.0, omega arith, refl)
+    (omega arith, omega arith, refl)
 
 pub returns-then-i : goal.returns-then-i
 unfolding best_record

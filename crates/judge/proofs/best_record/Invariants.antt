@@ -2,8 +2,6 @@ use mathlib.Core.Path.{◌≡◌, refl}
 use mathlib.Core.Bool.{true, false}
 use Prim.Native.Nat.{◌≤◌, ◌-◌}
 use native.Mathlib.Omega.{arith}
-use borrow.Kind.Array.{good_length, e_int}
-use mir.Syntax.{w16}
 use lib.ListN.{length, drop}
 use Rattle.judge.specs.Standing.{best_record}
 use Rattle.judge.specs.StandingLaws.{records_end, records_hit, records_next, records_none, look_compatible}

@@ -12,26 +12,21 @@ use Rattle.judge.specs.StandingLaws.{Judged, judged_none, judged_skip, judged_wa
 use Rattle.judge.proofs.stage.Goals as goal
 
 pub loop-v-init : goal.loop-v-init
-loop-v-init c =
-    let given = c.args.before in
-    let good = c.well_formed.1.1.0.1.1 in
-    let marks = sym (length-map given.marks (λ n. n)) ∙ good_length (e_int w8) 64 (map (λ n. n) given.marks) _ good.0 in
-    let shown = sym (length-map given.shown (λ n. n)) ∙ good_length (e_int w16) 64 (map (λ n. n) given.shown) _ good.1.0 in
-    judged_none _ _ _ _ _ marks shown
+loop-v-init c = judged_none _ _ _ _ _ (omega arith) (omega arith)
 
 pub loop-v-preserved-then-not-is_judged : goal.loop-v-preserved-then-not-is_judged
 loop-v-preserved-then-not-is_judged c =
-    judged_skip c.loop-v.invariant c.loop-v-test.true c.is_judged.ensures (not-true _ c.if-not-is_judged.true)
+    judged_skip c.loop-v.invariant c.loop-v-test.true c.is_judged.ensures c.if-not-is_judged.true
 
 pub loop-v-preserved-then-not-enters : goal.loop-v-preserved-then-not-enters
 loop-v-preserved-then-not-enters c =
-    judged_wait c.loop-v.invariant c.loop-v-test.true c.is_judged.ensures (not-false _ c.if-not-is_judged.false)
-    c.best_record-best.ensures c.enters.ensures (not-true _ c.if-not-enters.true)
+    judged_wait c.loop-v.invariant c.loop-v-test.true c.is_judged.ensures c.if-not-is_judged.false
+    c.best_record-best.ensures c.enters.ensures c.if-not-enters.true
 
 pub loop-v-preserved : goal.loop-v-preserved
 loop-v-preserved c =
-    judged_enter c.loop-v.invariant c.loop-v-test.true c.is_judged.ensures (not-false _ c.if-not-is_judged.false)
-    c.best_record-best.ensures c.enters.ensures (not-false _ c.if-not-enters.false)
+    judged_enter c.loop-v.invariant c.loop-v-test.true c.is_judged.ensures c.if-not-is_judged.false
+    c.best_record-best.ensures c.enters.ensures c.if-not-enters.false
 
 pub returns : goal.returns
 returns c = judged_all c.loop-v.invariant (omega arith)

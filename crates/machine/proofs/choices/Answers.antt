@@ -8,9 +8,9 @@ use Rattle.machine.proofs.choices.Goals as goal
 
 pub returns-in_default : goal.returns-in_default
 returns-in_default c =
-    choices_accepted _ _ _ _ _ (reading_accepted _ (sym c.enum_told-in_default-1.given.1 ∙ c.read-reading.ensures))
+    choices_accepted _ _ _ _ _ (reading_accepted _ (sym c.in_default.is ∙ c.read-reading.ensures))
     c.next_hops-nexts.ensures c.asked_bytes-asked.ensures c.choice_bytes.ensures
 
 pub returns : goal.returns
 returns c =
-    choices_refused _ _ _ (reading_refused _ _ _ (sym c.enum_told-1.given.1 ∙ c.read-reading.ensures))
+    choices_refused _ _ _ (reading_refused _ _ _ (sym c.in_default.is ∙ c.read-reading.ensures))

@@ -29,4 +29,4 @@ loop-k-preserved c =
     (omega arith, omega (arith, i.1), met_more _ _ _ i.2 (omega arith) _ c.slot_to.ensures (omega arith) (omega arith))
 
 pub returns : goal.returns
-returns c = c.loop-k.invariant in met_all _ _ _ i.2 i.0 (omega arith)
+returns c = let i = c.loop-k.invariant in met_all _ _ _ i.2 i.0 (omega arith)

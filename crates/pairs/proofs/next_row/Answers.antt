@@ -3,8 +3,6 @@
 use mathlib.Core.Path.{ap, ◌∙◌}
 use Prim.Native.Nat.{◌≤◌, ◌-◌}
 use native.Mathlib.Omega.{arith}
-use borrow.Kind.Array.{good_length, e_int}
-use mir.Syntax.{w16}
 use Rattle.rules.specs.Table.{path_at, next_hop}
 use Rattle.pairs.specs.SlotPaths.{FilledTo}
 use Rattle.pairs.specs.SlotPathLaws.{filled_none, filled_to_stop, filled_to_end, filled_to_more}
@@ -13,7 +11,7 @@ use Rattle.pairs.proofs.next_row.Goals as goal
 
 pub loop-k-init : goal.loop-k-init
 loop-k-init c =
-    c in (omega arith, filled_none (good_length (e_int w16) 16 a.args.t2 _ a.well-formed.1.0))
+    (omega arith, filled_none (omega arith))
 
 pub returns-then-i : goal.returns-then-i
 unfolding next_row

@@ -11,11 +11,11 @@ loop-k-init c = (omega arith, from_none _ _)
 
 pub loop-k-preserved-then-nexts-k : goal.loop-k-preserved-then-nexts-k
 loop-k-preserved-then-nexts-k c =
-    c.loop-k.invariant in (omega arith, from_hit _ _ _ _ i.1 (omega arith) i.0 c.if-nexts-k.true)
+    let i = c.loop-k.invariant in (omega arith, from_hit _ _ _ _ i.1 (omega arith) i.0 c.if-nexts-k.true)
 
 pub loop-k-preserved : goal.loop-k-preserved
 loop-k-preserved c =
-    c.loop-k.invariant in (omega arith, from_miss _ _ _ _ i.1 (omega arith) i.0 c.if-nexts-k.false)
+    let i = c.loop-k.invariant in (omega arith, from_miss _ _ _ _ i.1 (omega arith) i.0 c.if-nexts-k.false)
 
 pub returns : goal.returns
 returns c =

@@ -2,8 +2,6 @@
 -- Assumes nothing.
 use native.Mathlib.Omega.{arith}
 use borrow.Author.Rules.{rules}
-use borrow.Kind.Array.{good_length, e_int}
-use mir.Syntax.{w8, w16}
 use Rattle.reporter.specs.Reported.{other_rows, other_ring, reported_refused, reported_shown}
 use Rattle.reporter.proofs.report.Goals as goal
 
@@ -18,6 +16,6 @@ returns-then-ring-ne-RING c =
 pub returns : goal.returns
 returns c =
     reported_shown _ _ _ _ c.args.rows.now c.args.ring.now c.if-rows-ne-ROWS.false c.if-ring-ne-RING.false
-    (good_length (e_int w8) 64 c.args.t2 _ c.well_formed.1.0)
-    (good_length (e_int w16) 64 c.args.t3 _ c.well_formed.1.1.0) c.write_rows.ensures c.write_ring-count.ensures c.verdict_of.ensures
+    (omega arith)
+    (omega arith) c.write_rows.ensures c.write_ring-count.ensures c.verdict_of.ensures
     c.count_between.ensures c.count_between-waiting.ensures c.longest_hops.ensures

@@ -3,8 +3,6 @@
 use mathlib.Core.Path.{sym, ap, ◌∙◌}
 use Prim.Native.Nat.{◌≤◌, ◌-◌}
 use native.Mathlib.Omega.{arith}
-use borrow.Kind.Array.{good_length, e_int}
-use mir.Syntax.{w16}
 use Rattle.rules.specs.Table.{path_at, next_hop}
 use Rattle.pairs.specs.SlotPaths.{held_in, FilledTo}
 use Rattle.pairs.specs.SlotPathLaws.{filled_none, filled_to_stop, filled_to_end, filled_to_more, filled_to_same}
@@ -16,7 +14,7 @@ pub loop-k-init : goal.loop-k-init
 loop-k-init c =
     (
       omega arith,
-      filled_none (good_length (e_int w16) 16 c.args.t3 _ c.well_formed.1.1.0),
+      filled_none (omega arith),
     )
 
 pub returns-then-i : goal.returns-then-i

@@ -1,8 +1,6 @@
 use mathlib.Core.Path.{sym, ap, ◌∙◌}
 use Prim.Native.Nat.{◌≤◌, ◌-◌}
 use native.Mathlib.Omega.{arith}
-use borrow.Kind.Array.{good_length, e_int}
-use mir.Syntax.{w16}
 use Rattle.rules.specs.Table.{path_at, next_hop}
 use Rattle.pairs.specs.SlotPaths.{held_in, FilledTo}
 use Rattle.pairs.specs.SlotPathLaws.{filled_none, filled_to_stop, filled_to_end, filled_to_more, filled_to_same}

@@ -3,8 +3,6 @@
 use mathlib.Core.Path.{sym, ap, ◌∙◌}
 use Prim.Native.Nat.{◌≤◌, ◌-◌}
 use native.Mathlib.Omega.{arith}
-use borrow.Kind.Array.{good_length, e_int}
-use mir.Syntax.{w16}
 use Rattle.rules.specs.Table.{path_at}
 use Rattle.rests.specs.Rests.{Scanned}
 use Rattle.rests.specs.RestLaws.{scanned_none, scanned_next, place_empty, place_hit, place_end}
@@ -12,7 +10,7 @@ use Rattle.rests.proofs.place_of.Goals as goal
 
 pub loop-k-init : goal.loop-k-init
 loop-k-init c =
-    c in (omega arith, scanned_none (good_length (e_int w16) 16 a.args.t3 _ a.well-formed.1.1.0))
+    (omega arith, scanned_none (omega arith))
 
 pub returns-then-i : goal.returns-then-i
 returns-then-i c = place_empty c.loop-k.invariant.1 (omega arith) c.if-i.true

@@ -1,8 +1,6 @@
 use mathlib.Core.Path.{sym, ap, ◌∙◌}
 use Prim.Native.Nat.{◌≤◌, ◌-◌}
 use native.Mathlib.Omega.{arith}
-use borrow.Kind.Array.{good_length, e_int}
-use mir.Syntax.{w16}
 use Rattle.rules.specs.Table.{path_at}
 use Rattle.rests.specs.Rests.{Scanned}
 use Rattle.rests.specs.RestLaws.{scanned_none, scanned_next, place_empty, place_hit, place_end}

@@ -19,4 +19,4 @@ loop-i-preserved c =
 
 pub returns : goal.returns
 returns c =
-    c.loop-i in fill_end _ _ _ _ l.invariant.2 (sym l.invariant.1) (omega arith) ∙ sym (padded_tabulate 255 _ [])
+    let l = c.loop-i in fill_end _ _ _ _ l.invariant.2 (sym l.invariant.1) (omega arith) ∙ sym (padded_tabulate 255 _ [])

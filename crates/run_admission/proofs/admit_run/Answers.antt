@@ -17,7 +17,7 @@ returns-then-sums-ne-SUMS_LENGTH c =
 
 pub admit_accepted-requires : goal.admit_accepted-requires
 admit_accepted-requires c =
-    (reading_accepted _ (sym c.enum_told-1.given.1 ∙ c.read-reading.ensures), c.if-heard-ne-HEARD_LENGTH.false)
+    (reading_accepted _ (sym c.in_default.is ∙ c.read-reading.ensures), c.if-heard-ne-HEARD_LENGTH.false)
 
 pub returns-in_default : goal.returns-in_default
 returns-in_default c = c.admit_accepted.ensures _ c.if-sums-ne-SUMS_LENGTH.false
@@ -26,5 +26,5 @@ pub returns : goal.returns
 returns c =
     admitted_not
     (run_refused_table _ _ _ _ c.if-heard-ne-HEARD_LENGTH.false c.if-sums-ne-SUMS_LENGTH.false _
-    (reading_refused _ _ _ (sym c.reading-1.given.1 ∙ c.read-reading.ensures)))
+    (reading_refused _ _ _ (sym c.in-Refused.is ∙ c.read-reading.ensures)))
     c.refusal_of-2.ensures

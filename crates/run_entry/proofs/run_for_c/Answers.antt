@@ -14,15 +14,15 @@ returns-then-numbers-ne-NUMBERS_LENGTH c = run_not_lent _ _ _ _ c.args.numbers.n
 pub returns-in-Accepted : goal.returns-in-Accepted
 returns-in-Accepted c =
     run_accepted _ _ _ c.args.sums.now c.args.numbers.now c.if-sums-ne-SUMS_LENGTH.false c.if-numbers-ne-NUMBERS_LENGTH.false _ _ _ c.run-answer.ensures
-    c.enum_told-1.given.1 _ _ c.write_sums.ensures c.write_run.ensures
+    c.in_default.is _ _ c.write_sums.ensures c.write_run.ensures
 
 pub overflow_cast-place : goal.overflow_cast-place
 overflow_cast-place c =
     let small = run_small _ _ _ c.args.sums.now c.args.numbers.now c.if-sums-ne-SUMS_LENGTH.false c.if-numbers-ne-NUMBERS_LENGTH.false _ _ _ c.run-answer.ensures _ _
-    c.verdict-1.given.1 in
+    c.in-Refused.is in
     omega (arith, small)
 
 pub returns-in-Refused : goal.returns-in-Refused
 returns-in-Refused c =
     run_refused _ _ _ c.args.sums.now c.args.numbers.now c.if-sums-ne-SUMS_LENGTH.false c.if-numbers-ne-NUMBERS_LENGTH.false _ _ _ c.run-answer.ensures _ _
-    c.verdict-1.given.1 _ c.code_of.ensures
+    c.in-Refused.is _ c.code_of.ensures

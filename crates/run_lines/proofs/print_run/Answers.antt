@@ -8,7 +8,7 @@ use Rattle.run_lines.proofs.print_run.Goals as goal
 pub returns-in_default : goal.returns-in_default
 returns-in_default c =
     laid_as (laid_then c.put_numbers-first.ensures c.put_vertices.ensures)
-    (accepted_text _ _ _ c.enum_told-1.given.1)
+    (accepted_text _ _ _ c.in_default.is)
 
 pub returns : goal.returns
-returns c = laid_as c.put_refused.ensures (refused_text _ _ _ _ _ c.verdict-1.given.1)
+returns c = laid_as c.put_refused.ensures (refused_text _ _ _ _ _ c.in-Refused.is)

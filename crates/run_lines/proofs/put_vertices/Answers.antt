@@ -21,7 +21,7 @@ loop-v-preserved-then-not-named-v c =
     (
       omega arith,
       laid_as c.loop-v.invariant.1 (shown_absent _ _ _ c.present_in-named.ensures (omega arith) _
-          (not-true _ c.if-not-named-v.true)),
+          c.if-not-named-v.true),
     )
 
 pub loop-v-preserved : goal.loop-v-preserved
@@ -30,9 +30,9 @@ loop-v-preserved c =
       omega arith,
       laid_as (laid_then c.loop-v.invariant.1 c.put_vertex-next.ensures)
           (shown_present _ _ _ c.present_in-named.ensures (omega arith) _
-          (not-false _ c.if-not-named-v.false) c.slots_of-slots.ensures refl c.byte_at-rank.ensures
+          c.if-not-named-v.false c.slots_of-slots.ensures refl c.byte_at-rank.ensures
           c.ranked_record-i.ensures
-          (to_z-of_z {w = w32} (record { sfits = c.sum_at.type-inv }) ∙ c.sum_at.ensures)
+          (to_z-of_z {w = w32} (record { sfits = c.sum_at.type_inv }) ∙ c.sum_at.ensures)
           c.path_at.ensures),
     )
 

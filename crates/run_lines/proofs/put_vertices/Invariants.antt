@@ -2,7 +2,6 @@ use mathlib.Core.Path.{◌≡◌, refl, ap, ◌∙◌}
 use Prim.Native.Nat.{◌≤◌, ◌-◌}
 use native.Mathlib.Omega.{arith}
 use borrow.Author.Tests.{not-true, not-false}
-use mir.Syntax.{w32}
 use mir.Facts.{to_z-of_z}
 use Rattle.laws.specs.RunTextLaws.{vertices_none}
 use Rattle.text_writing.specs.Lay.{Laid}

@@ -2,8 +2,6 @@
 -- Assumes nothing.
 use native.Mathlib.Omega.{arith}
 use borrow.Author.Rules.{rules}
-use borrow.Kind.Array.{good_length, e_int}
-use mir.Syntax.{w16}
 use Rattle.run_lines.specs.ShownLaws.{ranked_none, ranked_past, ranked_some}
 use Rattle.run_lines.proofs.ranked_record.Goals as goal
 
@@ -12,8 +10,8 @@ returns-then-rank-eq0 c = ranked_none _ _ (omega arith)
 
 pub returns-then-rank-gt-MOST_RANK : goal.returns-then-rank-gt-MOST_RANK
 returns-then-rank-gt-MOST_RANK c =
-    ranked_past _ _ (omega (arith, good_length (e_int w16) 16 c.args.t1 _ c.well_formed.0))
+    ranked_past _ _ (omega arith)
 
 pub returns : goal.returns
 returns c =
-    ranked_some _ _ (λ e. omega arith) (omega (arith, good_length (e_int w16) 16 c.args.t1 _ c.well_formed.0))
+    ranked_some _ _ (λ e. omega arith) (omega arith)

@@ -7,11 +7,11 @@ use Rattle.runner.proofs.run_schedule.Goals as goal
 
 pub returns-in_default : goal.returns-in_default
 returns-in_default c =
-    verdict_refused c.admit_run-admitted.ensures _ _ c.enum_told-in_default-1.given.1
+    verdict_refused c.admit_run-admitted.ensures _ _ c.in_default.is
 
 pub work-requires : goal.work-requires
-work-requires c = verdict_ready c.admit_run-admitted.ensures c.enum_told-1.given.1
+work-requires c = verdict_ready c.admit_run-admitted.ensures c.in_default.is
 
 pub returns : goal.returns
 returns c =
-    ran_accepted _ _ _ _ _ _ _ (verdict_none c.admit_run-admitted.ensures c.enum_told-1.given.1) c.work.ensures
+    ran_accepted _ _ _ _ _ _ _ (verdict_none c.admit_run-admitted.ensures c.in_default.is) c.work.ensures

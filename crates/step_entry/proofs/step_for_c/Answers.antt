@@ -10,15 +10,15 @@ returns-then-numbers-ne-NUMBERS_LENGTH c = step_not_lent _ _ _ c.args.numbers.no
 
 pub returns-in-Moved : goal.returns-in-Moved
 returns-in-Moved c =
-    step_accepted _ _ _ c.args.numbers.now c.if-numbers-ne-NUMBERS_LENGTH.false _ _ c.step-answer.ensures _ c.answer-1.given.1 _ _
+    step_accepted _ _ _ c.args.numbers.now c.if-numbers-ne-NUMBERS_LENGTH.false _ _ c.step-answer.ensures _ c.in-Moved.is _ _
     c.complement.ensures c.write_numbers.ensures
 
 pub overflow_cast-place : goal.overflow_cast-place
 overflow_cast-place c =
-    let small = step_small _ _ _ c.args.numbers.now c.if-numbers-ne-NUMBERS_LENGTH.false _ _ c.step-answer.ensures _ _ c.answer-in-Refused-1.given.1 in
+    let small = step_small _ _ _ c.args.numbers.now c.if-numbers-ne-NUMBERS_LENGTH.false _ _ c.step-answer.ensures _ _ c.in-Refused.is in
     omega (arith, small)
 
 pub returns-in-Refused : goal.returns-in-Refused
 returns-in-Refused c =
-    step_refused _ _ _ c.args.numbers.now c.if-numbers-ne-NUMBERS_LENGTH.false _ _ c.step-answer.ensures _ _ c.answer-in-Refused-1.given.1 _
+    step_refused _ _ _ c.args.numbers.now c.if-numbers-ne-NUMBERS_LENGTH.false _ _ c.step-answer.ensures _ _ c.in-Refused.is _
     c.code_of.ensures

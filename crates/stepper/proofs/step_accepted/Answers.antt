@@ -20,7 +20,7 @@ returns-then-not-is_listening c =
     let leads = rows_slotted _ _ _ c.slots_of-slots.ensures c.next_rows-nexts.ensures in
     let y = surveyed p.0 p.1 leads c.bad_offset-at.ensures in
     let valid = c.if-at-ne-HEARD_LENGTH.false in
-    way_pair y valid _ _ c.is_listening.ensures (not-true _ c.if-not-is_listening.true)
+    way_pair y valid _ _ c.is_listening.ensures c.if-not-is_listening.true
 
 pub work_pair-requires : goal.work_pair-requires
 work_pair-requires c =
@@ -28,7 +28,7 @@ work_pair-requires c =
     let leads = rows_slotted _ _ _ c.slots_of-slots.ensures c.next_rows-nexts.ensures in
     let y = surveyed p.0 p.1 leads c.bad_offset-at.ensures in
     let valid = c.if-at-ne-HEARD_LENGTH.false in
-    (way_worked y valid _ _ c.is_listening.ensures (not-false _ c.if-not-is_listening.false), c.slots_of-slots.ensures, survey_rows y)
+    (way_worked y valid _ _ c.is_listening.ensures c.if-not-is_listening.false, c.slots_of-slots.ensures, survey_rows y)
 
 pub returns : goal.returns
 returns c =
@@ -37,4 +37,4 @@ returns c =
     let y = surveyed p.0 p.1 leads c.bad_offset-at.ensures in
     let valid = c.if-at-ne-HEARD_LENGTH.false in
     let e = c.work_pair.ensures in
-    way_moved y valid _ _ c.is_listening.ensures (not-false _ c.if-not-is_listening.false) _ _ e.0 e.1
+    way_moved y valid _ _ c.is_listening.ensures c.if-not-is_listening.false _ _ e.movement e.heard

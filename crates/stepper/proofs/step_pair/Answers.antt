@@ -13,7 +13,7 @@ returns-then-heard-ne-HEARD_LENGTH c =
 
 pub step_accepted-requires : goal.step_accepted-requires
 step_accepted-requires c =
-    (reading_accepted _ (sym c.enum_told-1.given.1 ∙ c.read-reading.ensures), c.if-heard-ne-HEARD_LENGTH.false)
+    (reading_accepted _ (sym c.in_default.is ∙ c.read-reading.ensures), c.if-heard-ne-HEARD_LENGTH.false)
 
 pub returns-in_default : goal.returns-in_default
 returns-in_default c = c.step_accepted.ensures
@@ -21,4 +21,4 @@ returns-in_default c = c.step_accepted.ensures
 pub returns : goal.returns
 returns c =
     stepped_refused _ _ _ _ _ (step_refused_table _ _ _ c.if-heard-ne-HEARD_LENGTH.false _
-    (reading_refused _ _ _ (sym c.reading-1.given.1 ∙ c.read-reading.ensures)))
+    (reading_refused _ _ _ (sym c.in-Refused.is ∙ c.read-reading.ensures)))

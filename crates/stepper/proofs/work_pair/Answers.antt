@@ -8,5 +8,6 @@ pub returns : goal.returns
 returns c =
     let p = c.requires in
     let h = c.hear-new.ensures in
-    pair_worked p.0 _ p.2 _ p.1 _ _ c.asked_row-asked.ensures c.asked_row-asking.ensures
-    _ _ _ _ c.choice_byte-old.ensures c.choice_byte-said.ensures h.stored h.chosen _ c.movement.ensures
+    let worked = pair_worked p.0 _ p.2 _ p.1 _ _ c.asked_row-asked.ensures c.asked_row-asking.ensures
+    _ _ _ _ c.choice_byte-old.ensures c.choice_byte-said.ensures h.stored h.chosen _ c.movement.ensures in
+    record { movement = worked.0; heard = worked.1 }

@@ -10,11 +10,11 @@ use Rattle.text_writing.proofs.put_place.Goals as goal
 
 pub returns-in-12 : goal.returns-in-12
 unfolding codes labelled
-returns-in-12 c = laid_as c.put_labelled.ensures (place_offset _ _ c.in_default-1.keys1)
+returns-in-12 c = laid_as c.put_labelled.ensures (place_offset _ _ c.in-12.is)
 
 pub returns-in-14 : goal.returns-in-14
 unfolding codes labelled
-returns-in-14 c = laid_as c.put_labelled-in-14.ensures (place_pair _ _ c.in_default-1.keys2)
+returns-in-14 c = laid_as c.put_labelled-in-14.ensures (place_pair _ _ c.in-14.is)
 
 pub returns-in-4-to-11 : goal.returns-in-4-to-11
 unfolding codes labelled
@@ -28,5 +28,4 @@ returns-in_default c =
 
 pub returns-in_default-2 : goal.returns-in_default-2
 returns-in_default-2 c =
-    let others = c.in_default-1.rest in
-    laid_as (laid_nothing _ _) (place_none _ _ (above_out 4 11 _ (omega arith)) others.0.1 others.1)
+    laid_as (laid_nothing _ _) (place_none _ _ (above_out 4 11 _ (omega arith)) (λ e. omega arith) (λ e. omega arith))

@@ -9,7 +9,7 @@ use Rattle.text_writing.proofs.put_signed.Goals as goal
 pub returns-then-n-ge0 : goal.returns-then-n-ge0
 returns-then-n-ge0 c =
     laid_as c.put_number.ensures
-    (signed_plain _ _ c.ranges.n c.type_size.ensures c.if-n-ge0.true)
+    (signed_plain _ _ c.ranges.n c.size_of.ensures c.if-n-ge0.true)
 
 pub returns : goal.returns
 unfolding codes

@@ -1,18 +1,17 @@
 -- `words::write_numbers` meets its contract: eight numbers, where the buffer has room for just these.
 -- Assumes nothing.
+use native.Mathlib.Omega.{arith}
 use mathlib.Core.Path.{◌∙◌}
 use borrow.Author.Rules.{rules}
-use borrow.Kind.Array.{good_length, e_int}
-use mir.Syntax.{w32}
 use Rattle.words.specs.WordLaws.{over_other, over_same, numbers_size, numbers_eight}
 use Rattle.words.proofs.write_numbers.Goals as goal
 
 pub returns-then-numbers-ne-NUMBERS_LENGTH : goal.returns-then-numbers-ne-NUMBERS_LENGTH
-returns-then-numbers-ne-NUMBERS_LENGTH c = over_other 32 _ _ (numbers_size c.args.t2) c.if-numbers-ne-NUMBERS_LENGTH.true
+returns-then-numbers-ne-NUMBERS_LENGTH c = over_other 32 _ _ (numbers_size c.args.told) c.if-numbers-ne-NUMBERS_LENGTH.true
 
 pub returns : goal.returns
 returns c =
-    let told = c.args.t2 in
+    let told = c.args.told in
     c.write_words.ensures
-    ∙ numbers_eight told (good_length (e_int w32) 8 told _ c.well_formed.1.0)
+    ∙ numbers_eight told (omega arith)
     ∙ over_same 32 _ c.args.numbers.now (numbers_size told) c.if-numbers-ne-NUMBERS_LENGTH.false

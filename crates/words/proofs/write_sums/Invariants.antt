@@ -4,7 +4,6 @@ use Prim.Native.Nat.{◌≤◌, ◌-◌}
 use native.Mathlib.Omega.{arith}
 use lib.ListN.{length, get_or, take, length-set}
 use lib.IntN.{pos}
-use mir.Syntax.{w32}
 use mir.Facts.{to_z-of_z}
 use Rattle.lists.specs.Fill.{tabulate}
 use Rattle.lists.specs.FillLaws.{tabulate_none, fill_more, fill_end}

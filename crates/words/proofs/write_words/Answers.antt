@@ -24,4 +24,4 @@ loop-k-preserved c =
     (omega arith, more.0, more.1)
 
 pub returns : goal.returns
-returns c = c.loop-k in words_all _ _ _ l.invariant.1 (omega arith) l.invariant.2
+returns c = let l = c.loop-k in words_all _ _ _ l.invariant.1 (omega arith) l.invariant.2

@@ -21,4 +21,4 @@ loop-v-preserved c =
     (omega arith, length-set l.marks l.v _ ∙ l.invariant.1, fill_more _ _ _ l.v _ l.invariant.2 (omega arith) refl here)
 
 pub returns : goal.returns
-returns c = c.loop-v in fill_end _ _ _ _ l.invariant.2 (sym l.invariant.1) (omega arith)
+returns c = let l = c.loop-v in fill_end _ _ _ _ l.invariant.2 (sym l.invariant.1) (omega arith)

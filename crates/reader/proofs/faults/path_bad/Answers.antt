@@ -5,8 +5,9 @@ use mathlib.Core.Bool.{false}
 use Prim.Native.Nat.{ℕ, ◌+◌, ◌≤◌, ◌-◌}
 use native.Mathlib.Omega.{arith}
 use Rattle.lists.specs.Search.{any_below}
-use Rattle.rules.specs.Table.{records, hops_of, rank_of, hops_at, rank_at}
-use Rattle.laws.specs.TableLaws.{same_path, block_fits, block_start, path_hit, path_next, path_end}
+use mathlib.Core.List.{List}
+use Rattle.rules.specs.Table.{record_at, records, hops_of, rank_of, hops_at, rank_at}
+use Rattle.laws.specs.TableLaws.{block_fits, block_start, path_hit, path_next, path_end}
 use Rattle.reader.specs.FrontLaws.{alone_record, front_same}
 use Rattle.reader.proofs.faults.path_bad.Goals as goal
 
@@ -39,25 +40,26 @@ loop-j-init c =
 
 pub front_at-requires : goal.front_at-requires
 front_at-requires c =
-    (omega (arith, c.requires.0), omega (arith, c.requires.1, hops-read c.before.before.before.before))
+    (
+      omega (arith, c.requires.0),
+      omega (arith, c.requires.1, c.hops_at.ensures ∙ ap hops_of (alone_record _ _ c.alone-r.ensures)),
+    )
 
--- what the comparison tells of the records i and j
-looked : (c : goal.After-same_parts)
-    → c.same_parts.result ≡ same_path c.args.table.now c.args.i c.loop-j.j
-looked c =
-    front_same _ c.requires.0 c.loop-j-test.true c.requires.1
-    (ap (λ (h : ℕ). h + 2) (hops-read c.before.before.before.before.before.before)) c.front_at.ensures c.front_at-path.ensures
-    c.same_parts.ensures
+-- so many bytes stand in front of record i as are compared
+count-read : (t : List ℕ) (i : ℕ) {r : List ℕ} {h : ℕ} → r ≡ record_at t i → h ≡ hops_at r 0 → h + 2 ≡ hops_at t i + 2
+count-read t i e q = ap (λ (h : ℕ). h + 2) (q ∙ ap hops_of (alone_record t i e))
 
 pub returns-then-same_parts : goal.returns-then-same_parts
 returns-then-same_parts c =
-    path_hit _ _ _ c.loop-j.invariant.1 _ _ _ refl refl (looked c.before) c.loop-j-test.true
-    c.if-same_parts.true
+    let count = count-read _ _ c.alone-r.ensures c.hops_at.ensures in
+    let looked = front_same _ c.requires.0 c.loop-j-test.true c.requires.1 count c.front_at.ensures c.front_at-path.ensures c.same_parts.ensures in
+    path_hit _ _ _ c.loop-j.invariant.1 _ _ _ refl refl looked c.loop-j-test.true c.if-same_parts.true
 
 pub loop-j-preserved : goal.loop-j-preserved
 loop-j-preserved c =
-    (omega arith, path_next _ _ _ c.loop-j.invariant.1 _ _ _ refl refl (looked c.before) c.if-same_parts.false)
+    let count = count-read _ _ c.alone-r.ensures c.hops_at.ensures in
+    let looked = front_same _ c.requires.0 c.loop-j-test.true c.requires.1 count c.front_at.ensures c.front_at-path.ensures c.same_parts.ensures in
+    (omega arith, path_next _ _ _ c.loop-j.invariant.1 _ _ _ refl refl looked c.if-same_parts.false)
 
 pub returns : goal.returns
-returns c =
-    path_end _ _ c.loop-j.j c.loop-j.invariant.1 c.loop-j.invariant.0 c.loop-j-test.false
+returns c = path_end _ _ c.loop-j.j c.loop-j.invariant.1 c.loop-j.invariant.0 c.loop-j-test.false

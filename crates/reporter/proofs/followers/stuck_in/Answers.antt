@@ -22,4 +22,4 @@ loop-v-preserved c =
 
 pub returns : goal.returns
 unfolding stuck_marks
-returns c = c.loop-v in fill_end _ _ _ _ l.invariant.3 (sym l.invariant.2) (omega arith)
+returns c = let l = c.loop-v in fill_end _ _ _ _ l.invariant.3 (sym l.invariant.2) (omega arith)
