@@ -13,4 +13,4 @@ returns-in_default c =
 
 pub returns : goal.returns
 returns c =
-    choices_refused _ _ _ (reading_refused _ _ _ (sym c.in_default.is ∙ c.read-reading.ensures))
+    choices_refused _ _ _ (reading_refused _ _ _ (sym c.in-Refused.is ∙ c.read-reading.ensures))

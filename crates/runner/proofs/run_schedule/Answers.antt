@@ -10,8 +10,8 @@ returns-in_default c =
     verdict_refused c.admit_run-admitted.ensures _ _ c.in_default.is
 
 pub work-requires : goal.work-requires
-work-requires c = verdict_ready c.admit_run-admitted.ensures c.in_default.is
+work-requires c = verdict_ready c.admit_run-admitted.ensures c.in-Accepted.is
 
 pub returns : goal.returns
 returns c =
-    ran_accepted _ _ _ _ _ _ _ (verdict_none c.admit_run-admitted.ensures c.in_default.is) c.work.ensures
+    ran_accepted _ _ _ _ _ _ _ (verdict_none c.admit_run-admitted.ensures c.in-Accepted.is) c.work.ensures
