@@ -3,13 +3,13 @@
 -- Assumes nothing.
 use mathlib.Core.Path.{◌≡◌, ◌∙◌}
 use Prim.Native.Nat.{◌≤◌, ◌-◌}
-use mathlib.Core.Logic.{⊎_elim}
 use native.Mathlib.Omega.{arith}
 use borrow.Author.Rules.{rules}
 use lib.ListN.{length}
 use Rattle.published_plan.specs.PlanLines.{lines_below}
 use Rattle.published_plan.specs.PlanLaws.{lines_none, line_ends, line_goes_on, lines_most, lines_all}
 use Rattle.published_plan.proofs.show_example.Goals as goal
+use Rattle.published_plan.proofs.show_example.Goals.{then-plan-k-eq10, else-plan-k-eq10}
 
 pub loop-k-init : goal.loop-k-init
 loop-k-init c = (omega arith, omega arith, lines_none _)
@@ -22,10 +22,10 @@ overflow_add-lines c =
 pub loop-k-preserved : goal.loop-k-preserved
 loop-k-preserved c =
     let l = c.loop-k in
-    ⊎_elim
-    (λ w. (omega arith, omega arith, w.8 ∙ line_ends _ l.k _ l.invariant.2 w.0.taken))
-    (λ w. (omega arith, omega arith, w.4 ∙ line_goes_on _ l.k _ l.invariant.2 w.0.left))
-    c.if-plan-k-eq10.branch
+    elim c.if-plan-k-eq10.branch [
+      | then-plan-k-eq10 w ↦ (omega arith, omega arith, w.lines-is ∙ line_ends _ l.k _ l.invariant.2 w.if-plan-k-eq10.true)
+      | else-plan-k-eq10 w ↦ (omega arith, omega arith, w.lines-is ∙ line_goes_on _ l.k _ l.invariant.2 w.if-plan-k-eq10.false)
+    ]
 
 pub returns : goal.returns
 returns c =

@@ -14,7 +14,7 @@ returns-then-numbers-ne-NUMBERS_LENGTH c = run_not_lent _ _ _ _ c.args.numbers.n
 pub returns-in-Accepted : goal.returns-in-Accepted
 returns-in-Accepted c =
     run_accepted _ _ _ c.args.sums.now c.args.numbers.now c.if-sums-ne-SUMS_LENGTH.false c.if-numbers-ne-NUMBERS_LENGTH.false _ _ _ c.run-answer.ensures
-    c.in_default.is _ _ c.write_sums.ensures c.write_run.ensures
+    c.in-Accepted.is _ _ c.write_sums.ensures c.write_run.ensures
 
 pub overflow_cast-place : goal.overflow_cast-place
 overflow_cast-place c =
