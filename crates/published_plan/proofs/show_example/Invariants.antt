@@ -9,7 +9,7 @@ use Rattle.published_plan.specs.PlanLaws.{lines_none, line_ends, line_goes_on, l
 use Rattle.published_plan.proofs.show_example.Given as goal
 
 abbrev pub invariant-loop-k : goal.invariant-loop-k
-invariant-loop-k l = (l.first ≤ l.k) × (l.k ≤ length l.plan) × (l.lines ≡ lines_below l.plan l.k)
+invariant-loop-k g l = (l.first ≤ l.k) × (l.k ≤ length l.plan) × (l.lines ≡ lines_below l.plan l.k)
 
 abbrev pub decreases-loop-k : goal.decreases-loop-k
-decreases-loop-k l = length l.plan - l.k
+decreases-loop-k g l = length l.plan - l.k
