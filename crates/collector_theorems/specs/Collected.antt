@@ -162,21 +162,21 @@ all_seen t heard (of_run s sums ∷ cs) a =
     let f = run_same t heard s (replicate 256 0) (replicate 32 0) refl refl ∙ run_any_sums t heard s sums (replicate 64 (pos 0)) refl a.0 in
     let same : heard_run_for_c t heard s (replicate 256 0) (replicate 32 0) ≡ heard_after_run t heard s sums = rw (f, a.0) in (
       record { code = sym (code_none _ f); heard = refl; sums = refl; numbers = refl },
-      all_seen t _ cs (subst (λ (h : List ℕ). AllAccepted t h cs) (sym same) a.1),
+      all_seen t (heard_run_for_c t heard s (replicate 256 0) (replicate 32 0)) cs (subst (λ (h : List ℕ). AllAccepted t h cs) (sym same) a.1),
     )
 all_seen t heard (of_step p ∷ cs) a =
     let f = step_same t heard p (replicate 32 0) refl ∙ a.0 in
     let same : heard_step_for_c t heard p (replicate 32 0) ≡ heard_after_step t heard p = rw (f, a.0) in (
       record { code = sym (code_none _ f); heard = refl; numbers = refl },
-      all_seen t _ cs (subst (λ (h : List ℕ). AllAccepted t h cs) (sym same) a.1),
+      all_seen t (heard_step_for_c t heard p (replicate 32 0)) cs (subst (λ (h : List ℕ). AllAccepted t h cs) (sym same) a.1),
     )
 
 -- and it is the same pairs
 pub seen_pairs : (t heard : List ℕ) (calls : List Call) → pairs_sent (seen_of t heard calls) ≡ pairs_of calls
 unfolding seen_of pairs_sent pairs_sent_by pairs_of pairs_of_call
 seen_pairs t heard [] = refl
-seen_pairs t heard (of_run s sums ∷ cs) = ap (λ (l : List Pair). pairs_in s ++ l) (seen_pairs t _ cs)
-seen_pairs t heard (of_step p ∷ cs) = ap (λ (l : List Pair). p ∷ l) (seen_pairs t _ cs)
+seen_pairs t heard (of_run s sums ∷ cs) = ap (λ (l : List Pair). pairs_in s ++ l) (seen_pairs t (heard_run_for_c t heard s (replicate 256 0) (replicate 32 0)) cs)
+seen_pairs t heard (of_step p ∷ cs) = ap (λ (l : List Pair). p ∷ l) (seen_pairs t (heard_step_for_c t heard p (replicate 32 0)) cs)
 
 -- and they leave the same heard state
 pub seen_left : (t heard : List ℕ) (calls : List Call) → AllAccepted t heard calls → heard_left heard (seen_of t heard calls) ≡ heard_after t heard calls
