@@ -126,7 +126,7 @@ Collecting pairs enough =
     → Contains (pairs t) (enough (get_or (row_at rows_now v) 0 0) (number_at numbers_now 4)) (pairs_sent rs)
     → Stays t (heard_left heard rs) v
 
--- collected-contained is the claim with all listening pairs and the stage times L
+-- collected_contained is the claim with all listening pairs and the stage times L
 pub collecting : Collecting listening_pairs (λ k hops. k * hops)
 collecting t rows ring numbers rows_now ring_now numbers_now heard rs held v vertex is_stage rounds =
     (collected_contained t rows ring numbers rows_now ring_now numbers_now heard rs held v vertex is_stage rounds).1

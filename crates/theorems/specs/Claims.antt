@@ -51,7 +51,7 @@ unfoldable pub pairs_of : List Call → List Pair
 pairs_of [] = []
 pairs_of (c ∷ cs) = pairs_of_call c ++ pairs_of cs
 
--- .. the state after the first n of these (pairs-none, pairs-next and pairs-all say that these are the states on the way), ..
+-- .. the state after the first n of these (pairs_none, pairs_next and pairs_all say that these are the states on the way), ..
 unfoldable pub heard_after_pairs : List ℕ → List ℕ → List Call → ℕ → List ℕ
 heard_after_pairs t heard calls n = (run (paths_of t) heard (take n (pairs_of calls))).heard
 

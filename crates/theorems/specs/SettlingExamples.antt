@@ -185,7 +185,7 @@ from_zeros = settles computed.of_zeros
 pub from_leftover : Stays table7_bytes (heard_after table7_bytes leftover six_rounds) 3
 from_leftover = settles computed.of_leftover
 
--- What table 7's rows report is a stable assignment, so it is the only one (complete-only).
+-- What table 7's rows report is a stable assignment, so it is the only one (complete_only).
 pub table7_stable : Stable (paths_of table7_bytes) (present table7_bytes) (reported_paths table7_bytes)
 table7_stable = complete_stable table7_bytes computed.of_zeros.given.table computed.all_settled
 
