@@ -9,7 +9,7 @@ from pathlib import Path
 ROOT = Path(__file__).resolve().parent.parent
 CODE = re.compile(r"`([^`]+)`")
 # A name of a law, a definition, a record or a function, perhaps with one of its fields behind it.
-NAME = re.compile(r"[A-Za-z_][\w-]*(?= \.\w+$|$)")
+NAME = re.compile(r"[A-Za-z_][\w-]*(?=\.\w+$|$)")
 FILE = re.compile(r"[\w./*-]+\.(?:antt|rt|py|c|md)")
 # What stands before the colon of a statement, or is declared by a word of its own.
 DECLARED = re.compile(
@@ -42,13 +42,13 @@ def named(cells):
 
 
 def missing_names(spans, known):
-    """The spans that look like a name of ours and are declared nowhere; `step-refused-..` stands for all that begin so."""
+    """The spans that look like a name of ours and are declared nowhere; `step_refused_..` stands for all that begin so."""
     names = [match[0] for span in spans if (match := NAME.match(span.removesuffix("..")))]
     return [name for name in names if name not in known | FOREIGN and not begins_one(name, known)]
 
 
 def begins_one(name, known):
-    return name.endswith("-") and any(one.startswith(name) for one in known)
+    return name.endswith("_") and any(one.startswith(name) for one in known)
 
 
 def missing_files(spans):
@@ -155,7 +155,7 @@ class Named(unittest.TestCase):
         self.held([row[2:] for row in rows("README.md") if row[0] in DEMANDS], 20)
 
     def test_what_is_not_there_is_found(self):
-        self.assertEqual(missing_names(["settling", "no-such-law", "Stays .now"], declared()), ["no-such-law"])
+        self.assertEqual(missing_names(["settling", "no_such_law", "Stays.now"], declared()), ["no_such_law"])
         self.assertEqual(missing_files(["rules/Table.antt", "rules/Tables.antt"]), ["rules/Tables.antt"])
 
 
