@@ -1,4 +1,6 @@
 // What is judged before the first store, by where the slots lead.
+#![tactic(auto)]
+
 ghost use Rattle.std.specs.Prelude.{◌≡◌, ◌<◌, ◌≤◌};
 ghost use Rattle.admission.specs.Judged.{speaks_in, bad_heard, bad_offset};
 

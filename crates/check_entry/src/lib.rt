@@ -1,4 +1,6 @@
 // The check's entry for C: the library's check, and its answer as words.
+#![tactic(auto)]
+
 ghost use Rattle.std.specs.Prelude.{◌≡◌};
 ghost use Rattle.rules.specs.Entries.{number_bytes};
 ghost use Rattle.answer.specs.Meaning.{numbers_with};

@@ -1,4 +1,6 @@
 // The printed text of the check's answer, for any answer and any buffers.
+#![tactic(auto)]
+
 ghost use Rattle.rules.specs.Text.{verdict_line, ring_line};
 ghost use Rattle.answer.specs.Meaning.{numbers};
 ghost use Rattle.text_writing.specs.Lay.{Laid};

@@ -1,4 +1,6 @@
 // The check program: a table from standard input, its check to standard output.
+#![tactic(auto)]
+
 use check_text::check_text;
 use std::io;
 use whole_input::read_full;

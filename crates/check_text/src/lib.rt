@@ -1,4 +1,6 @@
 // The check as text: from a table's bytes to the bytes that the check program prints.
+#![tactic(auto)]
+
 ghost use Rattle.rules.specs.Text.{check_text};
 ghost use Rattle.text_writing.specs.Lay.{Laid};
 

@@ -1,4 +1,6 @@
 // The greedy check: a table is read, its vertices settle, and what they come to is reported.
+#![tactic(auto)]
+
 mod settle;
 
 ghost use Rattle.std.specs.Prelude.{◌≡◌};

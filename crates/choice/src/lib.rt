@@ -1,4 +1,6 @@
 // The choice of a vertex, for any bytes: the first of its slots whose rest is what it last heard from the next hop.
+#![tactic(auto)]
+
 ghost use Rattle.std.specs.Prelude.{◌≡◌, ◌≤◌, ◌+◌, ◌*◌, get_or};
 ghost use Rattle.rests.specs.Rests.{hears_byte};
 ghost use Rattle.choice.specs.Choosing.{chosen_slot, choice_byte, choices_by};

@@ -1,4 +1,6 @@
 // The compatibility judgement and one stage, for any bytes.
+#![tactic(auto)]
+
 ghost use Rattle.std.specs.Prelude.{◌≡◌, get_or};
 ghost use Rattle.lists.specs.Search.{same};
 ghost use Rattle.rules.specs.Greedy.{compatible};

@@ -1,4 +1,6 @@
 // The machine: the choices of a heard state, the single step, and the run over a schedule.
+#![tactic(auto)]
+
 ghost use Rattle.std.specs.Prelude.{◌≡◌};
 ghost use Rattle.rules.specs.Answers.{choices_in};
 ghost use Rattle.stepper.specs.Stepped.{Stepped};

@@ -1,4 +1,6 @@
 // The listening pairs by slot, for any bytes: a pair of v and u is known by the first slot of v whose path leads to u.
+#![tactic(auto)]
+
 ghost use Rattle.std.specs.Prelude.{◌≡◌};
 ghost use Rattle.lists.specs.Search.{count_below};
 ghost use Rattle.lists.specs.Fill.{tabulate};

@@ -1,5 +1,7 @@
 // What the entries for C do not show, for tests outside Rattle: the reader, the facts and the texts, thin over the
 // proved crates.
+#![tactic(auto)]
+
 ghost use Rattle.std.specs.Prelude.{◌≡◌};
 ghost use Rattle.rules.specs.Table.{longest, present};
 ghost use Rattle.rules.specs.Refusals.{refusal};

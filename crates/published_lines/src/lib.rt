@@ -1,4 +1,6 @@
 // A part of some bytes, and a row's printed text: its title with its pairs, and the run that it is.
+#![tactic(auto)]
+
 ghost use Rattle.std.specs.Prelude.{◌≡◌, ◌++◌, take, drop};
 ghost use Rattle.rules.specs.Text.{codes, spaced};
 ghost use Rattle.text_writing.specs.Lay.{Laid};

@@ -5,6 +5,8 @@
 // - what is shown below the title: c the check, r the run of its pairs one by one, e that run and whether it ends in a
 //   state at rest, . nothing;
 // - where its pairs begin among the bytes of the rows, and how many bytes they are; neither is 10, which ends a line.
+#![tactic(auto)]
+
 ghost use Rattle.std.specs.Prelude.{◌≡◌, IfOk};
 ghost use Rattle.published_plan.specs.PlanLines.{lines_in};
 

@@ -1,5 +1,7 @@
 // The published examples of paper 001, run: of each its check, then its rows and states, and what the machine makes of
 // them. Each example is a plan, a table and the pairs of its rows; crates/published_plan says what a plan's line means.
+#![tactic(auto)]
+
 use published::rows::{bad_gadget_rounds, bleedin_edge_rows, di_safe_gree_rows, disagree_rows};
 use published::tables::{bad_gadget, bleedin_edge, di_safe_gree, disagree};
 use published_plan::show_example;

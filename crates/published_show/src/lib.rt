@@ -1,5 +1,7 @@
 // What the published program shows. Each function writes to standard output; no contract can say what is written there,
 // so each says what is answered, unless a write fails.
+#![tactic(auto)]
+
 ghost use Rattle.std.specs.Prelude.{◌≡◌, ◌++◌, min, length, replicate, pos, IfOk};
 ghost use Rattle.rules.specs.Answers.{heard_after_run};
 ghost use Rattle.rules.specs.Text.{check_text, codes, spaced};

@@ -1,4 +1,6 @@
 // The reader of path tables: accepted, or refused with number and place.
+#![tactic(auto)]
+
 mod faults;
 
 ghost use Rattle.std.specs.Prelude.{◌≡◌};

@@ -1,5 +1,7 @@
 // The fields of a record, for any bytes and any record number: past the table's end a record is empty, and its fields
 // are 0.
+#![tactic(auto)]
+
 ghost use Rattle.std.specs.Prelude.{◌≡◌};
 ghost use Rattle.rules.specs.Table.{record_at, rank_at, hops_at, path_at, owner_at, next_hop};
 

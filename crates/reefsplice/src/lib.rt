@@ -1,5 +1,7 @@
 // What the carriers' collector calls from C. A static library exports the functions of its own crate alone, so each entry
 // is here, and passes on to its body's crate.
+#![tactic(auto)]
+
 ghost use Rattle.check_entry.specs.CheckCalled.{CheckCalled};
 ghost use Rattle.step_entry.specs.StepCalled.{StepCalled};
 ghost use Rattle.run_entry.specs.RunCalled.{RunCalled};

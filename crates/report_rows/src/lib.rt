@@ -1,4 +1,6 @@
 // The rows that a mark and a record number for each vertex show, for any bytes; each vertex writes its own 16 bytes.
+#![tactic(auto)]
+
 ghost use Rattle.std.specs.Prelude.{◌≡◌, ◌≤◌, pred, length};
 ghost use Rattle.lists.specs.Fill.{blocks};
 ghost use Rattle.rules.specs.Report.{row_bytes};

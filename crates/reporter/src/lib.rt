@@ -1,4 +1,6 @@
 // The report that a mark and a record number for each vertex show, for any bytes: the answer, a row for each vertex and the ring.
+#![tactic(auto)]
+
 mod counts;
 mod followers;
 

@@ -1,4 +1,6 @@
 // What a vertex has to hear for each of its paths, for any bytes: the byte of the path's rest among the next hop's paths.
+#![tactic(auto)]
+
 ghost use Rattle.std.specs.Prelude.{◌≡◌};
 ghost use Rattle.lists.specs.Fill.{tabulate};
 ghost use Rattle.rules.specs.Table.{rest};

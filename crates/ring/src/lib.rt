@@ -1,4 +1,6 @@
 // The ring among the stuck vertices, for any marks and numbers: each vertex is followed by the number at its place.
+#![tactic(auto)]
+
 ghost use Rattle.std.specs.Prelude.{◌≡◌, [], length};
 ghost use Rattle.lists.specs.Fill.{padded};
 ghost use Rattle.rules.specs.Greedy.{before_vertex, lowest_of, turned};

@@ -1,4 +1,6 @@
 // The printed lines of the rows, for any bytes: a small function for each part of a line.
+#![tactic(auto)]
+
 ghost use Rattle.std.specs.Prelude.{◌≡◌};
 ghost use Rattle.rules.specs.Text.{stage_words, row_path, row_line, row_lines};
 ghost use Rattle.text_writing.specs.Lay.{Laid};

@@ -1,5 +1,7 @@
 // What is judged before a run stores anything: the lengths, the table, the state and the whole schedule. Its rounds are
 // counted on the way, since they do not go by what is heard.
+#![tactic(auto)]
+
 mod schedule;
 
 ghost use Rattle.std.specs.Prelude.{◌≡◌, length};

@@ -1,4 +1,6 @@
 // The run's entry for C: the library's run, and its numbers and sums as words.
+#![tactic(auto)]
+
 ghost use Rattle.std.specs.Prelude.{◌≡◌};
 ghost use Rattle.rules.specs.Entries.{number_bytes};
 ghost use Rattle.answer.specs.Moves.{run_numbers_in};

@@ -1,5 +1,7 @@
 // The printed text of a run's answer, for any answer, choices and sums: a line of numbers, then one for each present
 // vertex.
+#![tactic(auto)]
+
 ghost use Rattle.std.specs.Prelude.{◌≡◌, get_or, pos};
 ghost use Rattle.rules.specs.RunText.{run_line, vertex_line};
 ghost use Rattle.answer.specs.Moves.{run_numbers_in};

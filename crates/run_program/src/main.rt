@@ -1,4 +1,6 @@
 // The run program: a table and a schedule from the files that its two arguments name, their run to standard output.
+#![tactic(auto)]
+
 use run_text::run_text;
 use std::env::{Env, FillError};
 use std::fs::File;

@@ -1,4 +1,6 @@
 // The run as text: from the bytes of a table and of a schedule to the bytes that the run program prints.
+#![tactic(auto)]
+
 ghost use Rattle.rules.specs.RunText.{ran_text};
 ghost use Rattle.text_writing.specs.Lay.{Laid};
 

@@ -1,4 +1,6 @@
 // The run over a schedule: all is judged before anything is stored.
+#![tactic(auto)]
+
 mod pair;
 mod sums;
 mod work;

@@ -1,4 +1,6 @@
 // Small questions about parts of a byte slice, and marks: nothing here knows a record.
+#![tactic(auto)]
+
 ghost use Rattle.std.specs.Prelude.{◌≡◌, true, false, min, max, get_or, length, set};
 ghost use Rattle.lists.specs.Search.{any_in, outside, same, twice};
 ghost use Rattle.lists.specs.Fill.{padded};

@@ -1,4 +1,6 @@
 // The step's entry for C: the library's step, and its movement as a word.
+#![tactic(auto)]
+
 ghost use Rattle.step_entry.specs.StepCalled.{StepCalled};
 
 use answer::StepAnswer;

@@ -1,4 +1,6 @@
 // What the check and the machine need of a table, for any bytes: the longest hops, who is present, the slots.
+#![tactic(auto)]
+
 ghost use Rattle.std.specs.Prelude.{◌≡◌, min};
 ghost use Rattle.lists.specs.Fill.{tabulate};
 ghost use Rattle.rules.specs.Table.{records, longest, present, slots_of};

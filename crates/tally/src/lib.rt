@@ -1,4 +1,6 @@
 // What the steps of a run count, for any numbers: the movement, ups, downs, the last change, and the rounds.
+#![tactic(auto)]
+
 ghost use Rattle.std.specs.Prelude.{◌≡◌, suc, ◌-◌, min, get_or, set, eqb};
 ghost use Rattle.rules.specs.Machine.{standing_of};
 ghost use Rattle.tally.specs.Counting.{moved, more_to, CountedStep};

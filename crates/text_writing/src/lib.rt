@@ -1,5 +1,7 @@
 // Letters into a lent buffer, laid from a place on, as far as they fit: pieces, decimal numbers, and the words that
 // every printed text shares.
+#![tactic(auto)]
+
 ghost use Rattle.std.specs.Prelude.{◌≡◌, ◌++◌, nat_abs};
 ghost use Rattle.rules.specs.Text.{decimal, spaced, route_words, place_words, refused_line};
 ghost use Rattle.rules.specs.RunText.{signed};

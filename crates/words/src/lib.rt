@@ -1,4 +1,6 @@
 // Numbers as C reads them: four bytes each, low byte first; and a refusal as one number.
+#![tactic(auto)]
+
 ghost use Rattle.std.specs.Prelude.{◌≡◌, ◌*◌, length};
 ghost use Rattle.std.proofs.Math.Option.{some};
 ghost use Rattle.rules.specs.Entries.{code_of, four_bytes, word_bytes, number_bytes, twos_complement, sum_bytes};

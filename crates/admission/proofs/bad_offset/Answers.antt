@@ -1,12 +1,8 @@
 -- `admission::bad_offset` meets its contract: what is left of the state from k on tells the answer.
 -- Assumes nothing.
-use mathlib.Core.Path.{◌≡◌, refl, sym, ◌∙◌}
-use Prim.Native.Nat.{◌≤◌, ◌-◌}
+use mathlib.Core.Path.{refl, sym, ◌∙◌}
 use native.Mathlib.Omega.{arith}
-use lib.ListN.{length, drop}
-use Rattle.lists.specs.Search.{first_in}
 use Rattle.lists.specs.ListLaws.{seek_next}
-use Rattle.admission.specs.Judged.{bad_heard}
 use Rattle.admission.specs.JudgedLaws.{offset_hit, offset_end}
 use Rattle.admission.proofs.bad_offset.Goals as goal
 
@@ -19,12 +15,11 @@ returns-then-is_bad c =
     (sym c.is_bad.ensures ∙ c.if-is_bad.true)
 
 pub loop-k-preserved : goal.loop-k-preserved
-loop-k-preserved c =
-    (
-      omega arith,
-      seek_next _ _ 0 c.loop-k.k _ c.loop-k.invariant.1 c.loop-k-test.true
-          (sym c.is_bad.ensures ∙ c.if-is_bad.false),
-    )
+loop-k-preserved c = (
+  omega arith,
+  seek_next _ _ 0 c.loop-k.k _ c.loop-k.invariant.1 c.loop-k-test.true
+      (sym c.is_bad.ensures ∙ c.if-is_bad.false),
+)
 
 pub returns : goal.returns
 returns c = offset_end _ _ c.loop-k.k c.loop-k.invariant.1 (omega arith)

@@ -1,11 +1,8 @@
-use mathlib.Core.Path.{◌≡◌, refl, sym, ◌∙◌}
+use mathlib.Core.Path.{◌≡◌}
 use Prim.Native.Nat.{◌≤◌, ◌-◌}
-use native.Mathlib.Omega.{arith}
 use lib.ListN.{length, drop}
 use Rattle.lists.specs.Search.{first_in}
-use Rattle.lists.specs.ListLaws.{seek_next}
 use Rattle.admission.specs.Judged.{bad_heard}
-use Rattle.admission.specs.JudgedLaws.{offset_hit, offset_end}
 use Rattle.admission.proofs.bad_offset.Given as goal
 
 abbrev pub invariant-loop-k : goal.invariant-loop-k

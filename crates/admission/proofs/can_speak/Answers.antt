@@ -1,6 +1,5 @@
 -- `admission::can_speak` meets its contract: the destination speaks of one path, every other vertex of those in its slots.
 -- Assumes nothing.
-use native.Mathlib.Omega.{arith}
 use Rattle.admission.specs.JudgedLaws.{speaks_destination_in, speaks_past, speaks_slot}
 use Rattle.admission.proofs.can_speak.Goals as goal
 

@@ -2,8 +2,6 @@
 -- Assumes nothing.
 use mathlib.Core.Path.{sym, ◌∙◌}
 use native.Mathlib.Omega.{arith}
-use borrow.Author.Rules.{rules}
-use borrow.Author.Tests.{not-true, not-false}
 use Rattle.admission.specs.JudgedLaws.{byte_silent, byte_past, byte_unheard, byte_heard}
 use Rattle.admission.proofs.is_bad.Goals as goal
 

@@ -1,6 +1,5 @@
 -- `check_entry::check_for_c` meets its contract: a wrong buffer, each verdict, and the numbers that go with it.
 -- Assumes nothing.
-use borrow.Author.Rules.{rules}
 use native.Mathlib.Omega.{arith}
 use mathlib.Core.Path.{refl}
 use Rattle.check_entry.specs.CheckCallLaws.{check_not_lent, check_complete, check_stuck, check_refused, check_small}

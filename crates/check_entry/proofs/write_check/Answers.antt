@@ -1,6 +1,5 @@
 -- `check_entry::write_check` meets its contract: the ring's length, then the answer's counts, then 0.
 -- Assumes nothing.
-use borrow.Author.Rules.{rules}
 use mathlib.Core.Path.{ap, ◌∙◌}
 use mathlib.Core.List.{List, [], ◌∷◌}
 use Prim.Native.Nat.{ℕ}

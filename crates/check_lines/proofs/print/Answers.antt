@@ -1,8 +1,7 @@
 -- `check_lines::print` meets its contract: the lines of each verdict behind each other.
 -- Assumes nothing.
-use borrow.Author.Rules.{rules}
 use Rattle.rules.specs.Text.{codes}
-use Rattle.text_writing.specs.LayLaws.{laid_then, laid_as, laid_length}
+use Rattle.text_writing.specs.LayLaws.{laid_then, laid_as}
 use Rattle.check_lines.specs.VerdictTextLaws.{complete_text, stuck_text, refused_text}
 use Rattle.check_lines.proofs.print.Goals as goal
 

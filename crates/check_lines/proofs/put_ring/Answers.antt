@@ -2,11 +2,10 @@
 -- Assumes nothing.
 use mathlib.Core.Path.{sym}
 use native.Mathlib.Omega.{arith}
-use borrow.Author.Rules.{rules}
 use lib.Seq.{length-take-le}
 use Rattle.rules.specs.Text.{codes}
 use Rattle.laws.specs.TextLaws.{ring_part}
-use Rattle.text_writing.specs.LayLaws.{laid_then, laid_as, laid_length}
+use Rattle.text_writing.specs.LayLaws.{laid_then, laid_as}
 use Rattle.check_lines.proofs.put_ring.Goals as goal
 
 pub slice_bounds-put_spaced-end : goal.slice_bounds-put_spaced-end

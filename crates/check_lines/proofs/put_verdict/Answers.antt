@@ -1,9 +1,8 @@
 -- `check_lines::put_verdict` meets its contract: seven pieces behind each other.
 -- Assumes nothing.
-use borrow.Author.Rules.{rules}
 use Rattle.rules.specs.Text.{codes, labelled, verdict_line}
 use Rattle.answer.specs.Meaning.{numbers}
-use Rattle.text_writing.specs.LayLaws.{laid_then, laid_length}
+use Rattle.text_writing.specs.LayLaws.{laid_then}
 use Rattle.check_lines.proofs.put_verdict.Goals as goal
 
 pub returns : goal.returns

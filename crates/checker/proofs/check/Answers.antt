@@ -2,7 +2,6 @@
 -- Assumes nothing.
 use mathlib.Core.Path.{sym, ◌∙◌}
 use native.Mathlib.Omega.{arith}
-use borrow.Author.Rules.{rules}
 use Rattle.laws.specs.AnswerLaws.{refused_rows, refused_ring, lent_right}
 use Rattle.reader.specs.ReadingLaws.{reading_accepted, reading_refused}
 use Rattle.checker.specs.Checked.{checked_refused}

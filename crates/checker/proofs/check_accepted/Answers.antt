@@ -1,6 +1,5 @@
 -- `checker::check_accepted` meets its contract: where the stages have ended, what marks and records show is the report.
 -- Assumes nothing.
-use borrow.Author.Rules.{rules}
 use Rattle.checker.specs.Checked.{checked_accepted}
 use Rattle.checker.proofs.check_accepted.Goals as goal
 

@@ -1,7 +1,6 @@
 -- `choice::byte_of` meets its contract, case by case.
 -- Assumes nothing.
 use native.Mathlib.Omega.{arith}
-use borrow.Author.Rules.{rules}
 use Rattle.choice.specs.ChoosingLaws.{found_nothing, found_slot}
 use Rattle.choice.proofs.byte_of.Goals as goal
 

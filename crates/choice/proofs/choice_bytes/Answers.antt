@@ -1,13 +1,11 @@
 -- `choice::choice_bytes` meets its contract: each vertex has its byte.
 -- Assumes nothing.
-use mathlib.Core.Path.{◌≡◌, refl, sym, ◌∙◌}
-use Prim.Native.Nat.{ℕ, ◌≤◌, ◌-◌}
-use mathlib.Core.List.{[]}
+use mathlib.Core.Path.{refl, sym, ◌∙◌}
+use Prim.Native.Nat.{ℕ}
 use native.Mathlib.Omega.{arith}
-use lib.ListN.{length, get_or, take, length-set, length-replicate}
-use Rattle.lists.specs.Fill.{tabulate}
+use lib.ListN.{length-set, length-replicate}
 use Rattle.lists.specs.FillLaws.{tabulate_none, fill_more, fill_end}
-use Rattle.choice.specs.Choosing.{choice_byte, choices_by}
+use Rattle.choice.specs.Choosing.{choices_by}
 use Rattle.choice.proofs.choice_bytes.Goals as goal
 
 pub loop-v-init : goal.loop-v-init

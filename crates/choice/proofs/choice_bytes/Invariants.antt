@@ -1,11 +1,9 @@
-use mathlib.Core.Path.{◌≡◌, refl, sym, ◌∙◌}
-use Prim.Native.Nat.{ℕ, ◌≤◌, ◌-◌}
+use mathlib.Core.Path.{◌≡◌}
+use Prim.Native.Nat.{◌≤◌, ◌-◌}
 use mathlib.Core.List.{[]}
-use native.Mathlib.Omega.{arith}
-use lib.ListN.{length, get_or, take, length-set, length-replicate}
+use lib.ListN.{length, get_or, take}
 use Rattle.lists.specs.Fill.{tabulate}
-use Rattle.lists.specs.FillLaws.{tabulate_none, fill_more, fill_end}
-use Rattle.choice.specs.Choosing.{choice_byte, choices_by}
+use Rattle.choice.specs.Choosing.{choice_byte}
 use Rattle.choice.proofs.choice_bytes.Given as goal
 
 abbrev pub invariant-loop-v : goal.invariant-loop-v

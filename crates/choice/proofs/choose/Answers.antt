@@ -1,8 +1,7 @@
 -- `choice::choose` meets its contract: no slot before k is empty, and nothing that one asks for was heard.
 -- Assumes nothing.
-use Prim.Native.Nat.{◌≤◌, ◌-◌}
 use native.Mathlib.Omega.{arith}
-use Rattle.choice.specs.ChoosingLaws.{Searched, searched_none, choose_empty, choose_end, choose_hit, choose_next}
+use Rattle.choice.specs.ChoosingLaws.{searched_none, choose_empty, choose_end, choose_hit, choose_next}
 use Rattle.choice.proofs.choose.Goals as goal
 
 pub loop-k-init : goal.loop-k-init

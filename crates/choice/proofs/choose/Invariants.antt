@@ -1,6 +1,5 @@
 use Prim.Native.Nat.{◌≤◌, ◌-◌}
-use native.Mathlib.Omega.{arith}
-use Rattle.choice.specs.ChoosingLaws.{Searched, searched_none, choose_empty, choose_end, choose_hit, choose_next}
+use Rattle.choice.specs.ChoosingLaws.{Searched}
 use Rattle.choice.proofs.choose.Given as goal
 
 abbrev pub invariant-loop-k : goal.invariant-loop-k

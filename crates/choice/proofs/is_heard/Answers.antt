@@ -1,7 +1,6 @@
 -- `choice::is_heard` meets its contract.
 -- Assumes nothing.
 use mathlib.Core.Path.{sym}
-use borrow.Author.Rules.{rules}
 use Rattle.rests.specs.HeardRestLaws.{hears_none, hears_some}
 use Rattle.choice.proofs.is_heard.Goals as goal
 

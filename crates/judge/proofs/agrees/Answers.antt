@@ -1,7 +1,6 @@
 -- `judge::agrees` meets its contract: vertex 0 holds (0), any other the path of its record.
 -- Assumes nothing.
 use mathlib.Core.Path.{◌∙◌, ap, sym}
-use borrow.Author.Rules.{rules}
 use Rattle.lists.specs.Search.{same}
 use Rattle.rules.specs.Table.{path_at}
 use Rattle.judge.specs.StandingLaws.{holds_origin, holds_record}

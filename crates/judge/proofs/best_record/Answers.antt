@@ -1,10 +1,8 @@
 -- `judge::best_record` meets its contract: what is left of the slots from k on tells the answer.
 -- Assumes nothing.
-use mathlib.Core.Path.{◌≡◌, refl}
+use mathlib.Core.Path.{refl}
 use mathlib.Core.Bool.{true, false}
-use Prim.Native.Nat.{◌≤◌, ◌-◌}
 use native.Mathlib.Omega.{arith}
-use lib.ListN.{length, drop}
 use Rattle.judge.specs.Standing.{best_record}
 use Rattle.judge.specs.StandingLaws.{records_end, records_hit, records_next, records_none, look_compatible}
 use Rattle.judge.proofs.best_record.Goals as goal

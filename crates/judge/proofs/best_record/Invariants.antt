@@ -1,10 +1,7 @@
-use mathlib.Core.Path.{◌≡◌, refl}
-use mathlib.Core.Bool.{true, false}
+use mathlib.Core.Path.{◌≡◌}
 use Prim.Native.Nat.{◌≤◌, ◌-◌}
-use native.Mathlib.Omega.{arith}
 use lib.ListN.{length, drop}
 use Rattle.judge.specs.Standing.{best_record}
-use Rattle.judge.specs.StandingLaws.{records_end, records_hit, records_next, records_none, look_compatible}
 use Rattle.judge.proofs.best_record.Given as goal
 
 abbrev pub invariant-loop-k : goal.invariant-loop-k

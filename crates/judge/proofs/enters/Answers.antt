@@ -1,6 +1,5 @@
 -- `judge::enters` meets its contract: without a path it enters, otherwise its next hop decides.
 -- Assumes nothing.
-use borrow.Author.Rules.{rules}
 use Rattle.judge.specs.StandingLaws.{enters_none, enters_next}
 use Rattle.judge.proofs.enters.Goals as goal
 

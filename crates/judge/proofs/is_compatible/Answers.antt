@@ -1,11 +1,5 @@
 -- `judge::is_compatible` meets its contract: what is left of the path from that hop on tells the answer.
 -- Assumes nothing.
-use mathlib.Core.Path.{◌≡◌, refl}
-use Prim.Native.Nat.{◌-◌}
-use native.Mathlib.Omega.{arith}
-use lib.ListN.{length, drop}
-use Rattle.rules.specs.Greedy.{compatible}
-use Rattle.judge.specs.Standing.{settled_by}
 use Rattle.judge.specs.StandingLaws.{compatible_hit, compatible_next, compatible_end}
 use Rattle.judge.proofs.is_compatible.Goals as goal
 

@@ -1,10 +1,8 @@
-use mathlib.Core.Path.{◌≡◌, refl}
+use mathlib.Core.Path.{◌≡◌}
 use Prim.Native.Nat.{◌-◌}
-use native.Mathlib.Omega.{arith}
 use lib.ListN.{length, drop}
 use Rattle.rules.specs.Greedy.{compatible}
 use Rattle.judge.specs.Standing.{settled_by}
-use Rattle.judge.specs.StandingLaws.{compatible_hit, compatible_next, compatible_end}
 use Rattle.judge.proofs.is_compatible.Given as goal
 
 abbrev pub invariant-loop-hop : goal.invariant-loop-hop

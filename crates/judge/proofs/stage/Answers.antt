@@ -1,14 +1,7 @@
 -- `judge::stage` meets its contract: the marks and records below v are new.
 -- Assumes nothing.
-use mathlib.Core.Path.{sym, ◌∙◌}
-use mathlib.Core.List.{map}
-use Prim.Native.Nat.{◌-◌}
 use native.Mathlib.Omega.{arith}
-use borrow.Author.Tests.{not-true, not-false}
-use borrow.Kind.Array.{good_length, e_int}
-use mir.Syntax.{w8, w16}
-use lib.ListN.{length-map}
-use Rattle.judge.specs.StandingLaws.{Judged, judged_none, judged_skip, judged_wait, judged_enter, judged_all}
+use Rattle.judge.specs.StandingLaws.{judged_none, judged_skip, judged_wait, judged_enter, judged_all}
 use Rattle.judge.proofs.stage.Goals as goal
 
 pub loop-v-init : goal.loop-v-init

@@ -1,7 +1,6 @@
 -- `machine::choices` meets its contract: an accepted table has its choices, a refused one has none.
 -- Assumes nothing.
 use mathlib.Core.Path.{sym, ◌∙◌}
-use borrow.Author.Rules.{rules}
 use Rattle.reader.specs.ReadingLaws.{reading_accepted, reading_refused}
 use Rattle.stepper.specs.StepLaws.{choices_accepted, choices_refused}
 use Rattle.machine.proofs.choices.Goals as goal

@@ -1,10 +1,9 @@
 -- `pairs::count_pairs` meets its contract: the pairs of the rows before v are counted.
 -- Assumes nothing.
 use mathlib.Core.Path.{◌≡◌, ap, ◌∙◌}
-use Prim.Native.Nat.{◌≤◌, ◌-◌, ◌*◌}
+use Prim.Native.Nat.{◌*◌}
 use native.Mathlib.Omega.{arith}
 use Rattle.lists.specs.Search.{count_below}
-use Rattle.pairs.specs.NextHops.{listens_in}
 use Rattle.pairs.specs.NextHopLaws.{row_few, pairs_none, pairs_more}
 use Rattle.pairs.proofs.count_pairs.Goals as goal
 

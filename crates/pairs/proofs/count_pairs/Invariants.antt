@@ -1,9 +1,7 @@
-use mathlib.Core.Path.{◌≡◌, ap, ◌∙◌}
+use mathlib.Core.Path.{◌≡◌}
 use Prim.Native.Nat.{◌≤◌, ◌-◌, ◌*◌}
-use native.Mathlib.Omega.{arith}
 use Rattle.lists.specs.Search.{count_below}
 use Rattle.pairs.specs.NextHops.{listens_in}
-use Rattle.pairs.specs.NextHopLaws.{row_few, pairs_none, pairs_more}
 use Rattle.pairs.proofs.count_pairs.Given as goal
 
 abbrev pub invariant-loop-v : goal.invariant-loop-v

@@ -1,10 +1,7 @@
 -- `pairs::count_row` meets its contract: the vertices that the slots before k lead to are counted.
 -- Assumes nothing.
-use mathlib.Core.Path.{◌≡◌}
-use Prim.Native.Nat.{◌≤◌, ◌-◌}
 use native.Mathlib.Omega.{arith}
-use Rattle.lists.specs.Search.{count_below}
-use Rattle.pairs.specs.NextHopLaws.{met_before, met_none, met_all, met_no_vertex, met_again, met_more}
+use Rattle.pairs.specs.NextHopLaws.{met_none, met_all, met_no_vertex, met_again, met_more}
 use Rattle.pairs.proofs.count_row.Goals as goal
 
 pub loop-k-init : goal.loop-k-init

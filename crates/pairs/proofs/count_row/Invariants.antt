@@ -1,8 +1,7 @@
 use mathlib.Core.Path.{◌≡◌}
 use Prim.Native.Nat.{◌≤◌, ◌-◌}
-use native.Mathlib.Omega.{arith}
 use Rattle.lists.specs.Search.{count_below}
-use Rattle.pairs.specs.NextHopLaws.{met_before, met_none, met_all, met_no_vertex, met_again, met_more}
+use Rattle.pairs.specs.NextHopLaws.{met_before}
 use Rattle.pairs.proofs.count_row.Given as goal
 
 abbrev pub invariant-loop-k : goal.invariant-loop-k

@@ -2,7 +2,6 @@
 -- Assumes nothing.
 use mathlib.Core.Path.{◌∙◌}
 use native.Mathlib.Omega.{arith}
-use borrow.Author.Rules.{rules}
 use Rattle.pairs.specs.NextHopLaws.{hears_vertex, hears_other}
 use Rattle.pairs.proofs.is_listening.Goals as goal
 

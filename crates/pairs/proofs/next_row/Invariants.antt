@@ -1,10 +1,6 @@
-use mathlib.Core.Path.{ap, ◌∙◌}
 use Prim.Native.Nat.{◌≤◌, ◌-◌}
-use native.Mathlib.Omega.{arith}
-use Rattle.rules.specs.Table.{path_at, next_hop}
+use Rattle.rules.specs.Table.{next_hop}
 use Rattle.pairs.specs.SlotPaths.{FilledTo}
-use Rattle.pairs.specs.SlotPathLaws.{filled_none, filled_to_stop, filled_to_end, filled_to_more}
-use Rattle.pairs.specs.NextHops.{next_row}
 use Rattle.pairs.proofs.next_row.Given as goal
 
 abbrev pub invariant-loop-k : goal.invariant-loop-k

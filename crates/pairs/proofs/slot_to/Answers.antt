@@ -1,12 +1,10 @@
 -- `pairs::slot_to` meets its contract: no slot before k leads to u.
 -- Assumes nothing.
-use mathlib.Core.Path.{◌≡◌, refl}
-use Prim.Native.Nat.{◌≤◌, ◌-◌}
+use mathlib.Core.Path.{refl}
 use native.Mathlib.Omega.{arith}
 use borrow.Author.Tests.{ne_eqb}
-use Rattle.lists.specs.Search.{first_from}
 use Rattle.lists.specs.SearchLaws.{search_next}
-use Rattle.pairs.specs.NextHopLaws.{there, slot_hit, slot_end}
+use Rattle.pairs.specs.NextHopLaws.{slot_hit, slot_end}
 use Rattle.pairs.proofs.slot_to.Goals as goal
 
 pub loop-k-init : goal.loop-k-init

@@ -1,10 +1,7 @@
-use mathlib.Core.Path.{◌≡◌, refl}
+use mathlib.Core.Path.{◌≡◌}
 use Prim.Native.Nat.{◌≤◌, ◌-◌}
-use native.Mathlib.Omega.{arith}
-use borrow.Author.Tests.{ne_eqb}
 use Rattle.lists.specs.Search.{first_from}
-use Rattle.lists.specs.SearchLaws.{search_next}
-use Rattle.pairs.specs.NextHopLaws.{there, slot_hit, slot_end}
+use Rattle.pairs.specs.NextHopLaws.{there}
 use Rattle.pairs.proofs.slot_to.Given as goal
 
 abbrev pub invariant-loop-k : goal.invariant-loop-k

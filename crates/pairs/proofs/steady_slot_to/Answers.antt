@@ -1,7 +1,6 @@
 -- `pairs::steady_slot_to` meets its contract: the slot is the first from k on.
 -- Assumes nothing.
 use mathlib.Core.Path.{◌≡◌, ap, ◌∙◌}
-use Prim.Native.Nat.{◌≤◌}
 use native.Mathlib.Omega.{arith}
 use Rattle.pairs.specs.NextHopLaws.{slot_from, from_none, from_all, from_hit, from_miss}
 use Rattle.pairs.proofs.steady_slot_to.Goals as goal

@@ -1,7 +1,6 @@
-use mathlib.Core.Path.{◌≡◌, ap, ◌∙◌}
+use mathlib.Core.Path.{◌≡◌}
 use Prim.Native.Nat.{◌≤◌}
-use native.Mathlib.Omega.{arith}
-use Rattle.pairs.specs.NextHopLaws.{slot_from, from_none, from_all, from_hit, from_miss}
+use Rattle.pairs.specs.NextHopLaws.{slot_from}
 use Rattle.pairs.proofs.steady_slot_to.Given as goal
 
 abbrev pub invariant-loop-k : goal.invariant-loop-k

@@ -1,6 +1,5 @@
 -- `probe::probe_listens` meets its contract: who listens is asked of the slots, and past the last pair nobody does.
 -- Assumes nothing.
-use borrow.Author.Rules.{rules}
 use Rattle.probe.specs.ProbeLaws.{listens_told, mark_past}
 use Rattle.probe.proofs.probe_listens.Goals as goal
 

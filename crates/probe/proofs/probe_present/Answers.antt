@@ -1,6 +1,5 @@
 -- `probe::probe_present` meets its contract: the mark is the reader's, and past the last mark there is none.
 -- Assumes nothing.
-use borrow.Author.Rules.{rules}
 use Rattle.probe.specs.ProbeLaws.{mark_in, mark_past}
 use Rattle.probe.proofs.probe_present.Goals as goal
 

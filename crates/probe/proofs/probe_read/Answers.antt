@@ -2,7 +2,6 @@
 -- Assumes nothing.
 use mathlib.Core.Path.{sym, ◌∙◌}
 use native.Mathlib.Omega.{arith}
-use borrow.Author.Rules.{rules}
 use Rattle.probe.specs.ProbeLaws.{accepted_code, refused_code, refused_small}
 use Rattle.probe.proofs.probe_read.Goals as goal
 

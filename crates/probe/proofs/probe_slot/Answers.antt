@@ -1,7 +1,6 @@
 -- `probe::probe_slot` meets its contract: the slot is the reader's, and past the last vertex or the last slot there is none.
 -- Assumes nothing.
 use mathlib.Core.Path.{◌∙◌}
-use borrow.Author.Rules.{rules}
 use Rattle.probe.specs.ProbeLaws.{slot_in, slot_no_vertex, slot_no_rank}
 use Rattle.probe.proofs.probe_slot.Goals as goal
 

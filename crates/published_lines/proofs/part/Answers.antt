@@ -1,6 +1,5 @@
 -- `published_lines::part` meets its contract: the part ends with the bytes at the latest.
 -- Assumes nothing.
-use borrow.Author.Rules.{rules}
 use Rattle.published_lines.specs.PartLaws.{part_past, part_here}
 use Rattle.published_lines.proofs.part.Goals as goal
 

@@ -1,6 +1,5 @@
 -- `published_lines::run_from` meets its contract: what the run's answer prints is the text of the run.
 -- Assumes nothing.
-use borrow.Author.Rules.{rules}
 use Rattle.text_writing.specs.LayLaws.{laid_as}
 use Rattle.run_text.specs.PrintedRunLaws.{printed_run}
 use Rattle.published_lines.proofs.run_from.Goals as goal

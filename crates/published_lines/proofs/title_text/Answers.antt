@@ -1,8 +1,7 @@
 -- `published_lines::title_text` meets its contract: three pieces behind each other.
 -- Assumes nothing.
-use borrow.Author.Rules.{rules}
 use Rattle.rules.specs.Text.{codes}
-use Rattle.text_writing.specs.LayLaws.{laid_then, laid_length}
+use Rattle.text_writing.specs.LayLaws.{laid_then}
 use Rattle.published_lines.proofs.title_text.Goals as goal
 
 pub returns : goal.returns

@@ -1,12 +1,8 @@
 -- `published_plan::show_example` meets its contract: a line begins no later than the byte that is looked at, and the
 -- lines that end before it are counted.
 -- Assumes nothing.
-use mathlib.Core.Path.{◌≡◌, ◌∙◌}
-use Prim.Native.Nat.{◌≤◌, ◌-◌}
+use mathlib.Core.Path.{◌∙◌}
 use native.Mathlib.Omega.{arith}
-use borrow.Author.Rules.{rules}
-use lib.ListN.{length}
-use Rattle.published_plan.specs.PlanLines.{lines_below}
 use Rattle.published_plan.specs.PlanLaws.{lines_none, line_ends, line_goes_on, lines_most, lines_all}
 use Rattle.published_plan.proofs.show_example.Goals as goal
 use Rattle.published_plan.proofs.show_example.Goals.{then-plan-k-eq10+in_ok-after, else-plan-k-eq10}

@@ -1,11 +1,7 @@
-use mathlib.Core.Path.{◌≡◌, ◌∙◌}
+use mathlib.Core.Path.{◌≡◌}
 use Prim.Native.Nat.{◌≤◌, ◌-◌}
-use mathlib.Core.Logic.{⊎_elim}
-use native.Mathlib.Omega.{arith}
-use borrow.Author.Rules.{rules}
 use lib.ListN.{length}
 use Rattle.published_plan.specs.PlanLines.{lines_below}
-use Rattle.published_plan.specs.PlanLaws.{lines_none, line_ends, line_goes_on, lines_most, lines_all}
 use Rattle.published_plan.proofs.show_example.Given as goal
 
 abbrev pub invariant-loop-k : goal.invariant-loop-k

@@ -1,12 +1,10 @@
 -- `reader::read` meets its contract: the first record with a fault is the answer, and the lengths are tested before.
 -- Assumes nothing.
-use mathlib.Core.Path.{◌≡◌, refl, sym, ap, ◌∙◌}
-use Prim.Native.Nat.{ℕ, ◌≤◌, ◌-◌}
+use mathlib.Core.Path.{refl, sym, ap, ◌∙◌}
+use Prim.Native.Nat.{ℕ}
 use native.Mathlib.Omega.{arith}
-use Rattle.lists.specs.Search.{first_from}
 use Rattle.rules.specs.Table.{records}
-use Rattle.rules.specs.Refusals.{faulty, first_bad}
-use Rattle.laws.specs.TableLaws.{Orderly, orderly_none, orderly_more, no_fault, bad_here, good_here, none_bad, all_to_find, refused_long, refused_ragged, refused_record, not_refused}
+use Rattle.laws.specs.TableLaws.{orderly_none, orderly_more, no_fault, bad_here, good_here, none_bad, all_to_find, refused_long, refused_ragged, refused_record, not_refused}
 use Rattle.reader.specs.Reading.{reading_of}
 use Rattle.reader.specs.declared.Reading.TheVariants.{Refused}
 use Rattle.reader.proofs.read.Goals as goal

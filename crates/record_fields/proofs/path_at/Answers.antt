@@ -1,6 +1,5 @@
 -- `record_fields::path_at` meets its contract: the part from byte 2 on is the path.
 -- Assumes nothing.
-use borrow.Author.Rules.{rules}
 use Rattle.laws.specs.TableLaws.{path_part, path_short}
 use Rattle.record_fields.proofs.path_at.Goals as goal
 

@@ -1,6 +1,5 @@
 -- `record_fields::record_at` meets its contract: the part from 16 times i on is the record.
 -- Assumes nothing.
-use borrow.Author.Rules.{rules}
 use Rattle.laws.specs.TableLaws.{record_past, record_part}
 use Rattle.record_fields.proofs.record_at.Goals as goal
 

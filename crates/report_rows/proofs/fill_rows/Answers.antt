@@ -1,13 +1,11 @@
 -- `report_rows::fill_rows` meets its contract: the rows below v stand.
 -- Assumes nothing.
-use mathlib.Core.Path.{◌≡◌, refl, sym, ◌∙◌}
-use Prim.Native.Nat.{◌≤◌, ◌-◌, ◌*◌}
+use mathlib.Core.Path.{refl, sym, ◌∙◌}
+use Prim.Native.Nat.{◌*◌}
 use native.Mathlib.Omega.{arith}
-use lib.ListN.{length, take, length-take}
+use lib.ListN.{length-take}
 use Rattle.report_rows.specs.ShownRowLaws.{first_written, next_written, all_written, path_most, shown_record}
-use Rattle.lists.specs.Fill.{blocks}
 use Rattle.lists.specs.Parts.{part_length}
-use Rattle.report_rows.specs.ShownRows.{shown_row}
 use Rattle.report_rows.proofs.fill_rows.Goals as goal
 
 pub slice_bounds-write_row-end-2 : goal.slice_bounds-write_row-end-2

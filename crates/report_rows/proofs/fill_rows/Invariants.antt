@@ -1,10 +1,7 @@
-use mathlib.Core.Path.{◌≡◌, refl, sym, ◌∙◌}
+use mathlib.Core.Path.{◌≡◌}
 use Prim.Native.Nat.{◌≤◌, ◌-◌, ◌*◌}
-use native.Mathlib.Omega.{arith}
-use lib.ListN.{length, take, length-take}
-use Rattle.report_rows.specs.ShownRowLaws.{first_written, next_written, all_written, path_most, shown_record}
+use lib.ListN.{length, take}
 use Rattle.lists.specs.Fill.{blocks}
-use Rattle.lists.specs.Parts.{part_length}
 use Rattle.report_rows.specs.ShownRows.{shown_row}
 use Rattle.report_rows.proofs.fill_rows.Given as goal
 

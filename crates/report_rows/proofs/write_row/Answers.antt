@@ -1,10 +1,6 @@
 -- `report_rows::write_row` meets its contract: three bytes, then the vertices.
 -- Assumes nothing.
-use mathlib.Core.Path.{ap, ◌∙◌, sym}
 use native.Mathlib.Omega.{arith}
-use borrow.Author.Rules.{rules}
-use lib.ListN.{length}
-use Rattle.laws.specs.ReportLaws.{row_bytes_length}
 use Rattle.report_rows.specs.ShownRowLaws.{three_length, row_written_lem}
 use Rattle.report_rows.proofs.write_row.Goals as goal
 

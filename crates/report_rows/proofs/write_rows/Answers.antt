@@ -1,7 +1,6 @@
 -- `report_rows::write_rows` meets its contract, by the room that there is, and the marks and records.
 -- Assumes nothing.
 use mathlib.Core.Path.{sym, ◌∙◌}
-use borrow.Author.Rules.{rules}
 use Rattle.report_rows.specs.ShownRowLaws.{rows_whole, rows_other, rows_marks, rows_records}
 use Rattle.report_rows.proofs.write_rows.Goals as goal
 

@@ -1,7 +1,6 @@
 -- `reporter::report` meets its contract: a buffer of another length is refused, and what is written is what marks and records show.
 -- Assumes nothing.
 use native.Mathlib.Omega.{arith}
-use borrow.Author.Rules.{rules}
 use Rattle.reporter.specs.Reported.{other_rows, other_ring, reported_refused, reported_shown}
 use Rattle.reporter.proofs.report.Goals as goal
 

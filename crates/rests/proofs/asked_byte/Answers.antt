@@ -1,6 +1,5 @@
 -- `rests::asked_byte` meets its contract: the destination speaks of (0), every other vertex of its slots.
 -- Assumes nothing.
-use borrow.Author.Rules.{rules}
 use Rattle.rests.specs.RestLaws.{asked_destination, asked_other}
 use Rattle.rests.proofs.asked_byte.Goals as goal
 

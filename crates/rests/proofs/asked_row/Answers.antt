@@ -1,21 +1,19 @@
 -- `rests::asked_row` meets its contract: the slots before k have their bytes.
 -- Assumes nothing.
 use mathlib.Core.Path.{sym, ap, ◌∙◌}
-use Prim.Native.Nat.{◌≤◌, ◌-◌}
 use native.Mathlib.Omega.{arith}
 use Rattle.rules.specs.Table.{path_at, next_hop}
-use Rattle.pairs.specs.SlotPaths.{held_in, FilledTo}
+use Rattle.pairs.specs.SlotPaths.{held_in}
 use Rattle.pairs.specs.SlotPathLaws.{filled_none, filled_to_stop, filled_to_end, filled_to_more, filled_to_same}
 use Rattle.rests.specs.Rests.{asked_for, asked_row}
 use Rattle.rests.specs.RestLaws.{asked_told, asked_past}
 use Rattle.rests.proofs.asked_row.Goals as goal
 
 pub loop-k-init : goal.loop-k-init
-loop-k-init c =
-    (
-      omega arith,
-      filled_none (omega arith),
-    )
+loop-k-init c = (
+  omega arith,
+  filled_none (omega arith),
+)
 
 pub returns-then-i : goal.returns-then-i
 unfolding asked_row

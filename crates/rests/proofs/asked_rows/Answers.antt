@@ -1,13 +1,11 @@
 -- `rests::asked_rows` meets its contract: each vertex has its row.
 -- Assumes nothing.
-use mathlib.Core.Path.{◌≡◌, refl, sym, ap, ◌∙◌}
+use mathlib.Core.Path.{refl, sym, ap, ◌∙◌}
 use mathlib.Core.List.{List}
-use Prim.Native.Nat.{ℕ, ◌≤◌, ◌-◌}
+use Prim.Native.Nat.{ℕ}
 use native.Mathlib.Omega.{arith}
-use lib.ListN.{length, take, replicate, length-set, length-replicate}
-use Rattle.lists.specs.Fill.{tabulate}
+use lib.ListN.{replicate, length-set, length-replicate}
 use Rattle.lists.specs.FillLaws.{tabulate_none, fill_more, fill_end}
-use Rattle.pairs.specs.SlotPaths.{held_in}
 use Rattle.pairs.specs.SlotPathLaws.{held_vertex}
 use Rattle.rests.specs.Rests.{asked_row}
 use Rattle.rests.proofs.asked_rows.Goals as goal

@@ -1,12 +1,8 @@
-use mathlib.Core.Path.{◌≡◌, refl, sym, ap, ◌∙◌}
-use mathlib.Core.List.{List}
-use Prim.Native.Nat.{ℕ, ◌≤◌, ◌-◌}
-use native.Mathlib.Omega.{arith}
-use lib.ListN.{length, take, replicate, length-set, length-replicate}
+use mathlib.Core.Path.{◌≡◌}
+use Prim.Native.Nat.{◌≤◌, ◌-◌}
+use lib.ListN.{length, take}
 use Rattle.lists.specs.Fill.{tabulate}
-use Rattle.lists.specs.FillLaws.{tabulate_none, fill_more, fill_end}
 use Rattle.pairs.specs.SlotPaths.{held_in}
-use Rattle.pairs.specs.SlotPathLaws.{held_vertex}
 use Rattle.rests.specs.Rests.{asked_row}
 use Rattle.rests.proofs.asked_rows.Given as goal
 

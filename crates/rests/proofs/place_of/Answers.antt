@@ -1,10 +1,8 @@
 -- `rests::place_of` meets its contract: no path before slot k is the path.
 -- Assumes nothing.
 use mathlib.Core.Path.{sym, ap, ◌∙◌}
-use Prim.Native.Nat.{◌≤◌, ◌-◌}
 use native.Mathlib.Omega.{arith}
 use Rattle.rules.specs.Table.{path_at}
-use Rattle.rests.specs.Rests.{Scanned}
 use Rattle.rests.specs.RestLaws.{scanned_none, scanned_next, place_empty, place_hit, place_end}
 use Rattle.rests.proofs.place_of.Goals as goal
 
@@ -22,13 +20,12 @@ returns-then-same_parts c =
     (sym c.same_parts.ensures ∙ c.if-same_parts.true)
 
 pub loop-k-preserved : goal.loop-k-preserved
-loop-k-preserved c =
-    (
-      omega arith,
-      scanned_next c.loop-k.invariant.1 _ (omega arith) c.if-i.false
-          (c.path_at.ensures ∙ ap (path_at _) c.wide.ensures)
-          (sym c.same_parts.ensures ∙ c.if-same_parts.false),
-    )
+loop-k-preserved c = (
+  omega arith,
+  scanned_next c.loop-k.invariant.1 _ (omega arith) c.if-i.false
+      (c.path_at.ensures ∙ ap (path_at _) c.wide.ensures)
+      (sym c.same_parts.ensures ∙ c.if-same_parts.false),
+)
 
 pub returns : goal.returns
 returns c = place_end c.loop-k.invariant.1 (omega arith)

@@ -1,11 +1,9 @@
 -- `ring::clear` meets its contract: below i stands the filler.
 -- Assumes nothing.
-use mathlib.Core.Path.{◌≡◌, refl, sym, ◌∙◌}
+use mathlib.Core.Path.{refl, sym, ◌∙◌}
 use mathlib.Core.List.{[]}
-use Prim.Native.Nat.{ℕ, ◌≤◌, ◌-◌}
 use native.Mathlib.Omega.{arith}
-use lib.ListN.{length, get_or, take, length-set}
-use Rattle.lists.specs.Fill.{tabulate}
+use lib.ListN.{length-set}
 use Rattle.lists.specs.FillLaws.{tabulate_none, fill_more, fill_end, padded_tabulate}
 use Rattle.ring.proofs.clear.Goals as goal
 

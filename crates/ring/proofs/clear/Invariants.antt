@@ -1,10 +1,8 @@
-use mathlib.Core.Path.{◌≡◌, refl, sym, ◌∙◌}
+use mathlib.Core.Path.{◌≡◌}
 use mathlib.Core.List.{[]}
 use Prim.Native.Nat.{ℕ, ◌≤◌, ◌-◌}
-use native.Mathlib.Omega.{arith}
-use lib.ListN.{length, get_or, take, length-set}
+use lib.ListN.{length, get_or, take}
 use Rattle.lists.specs.Fill.{tabulate}
-use Rattle.lists.specs.FillLaws.{tabulate_none, fill_more, fill_end, padded_tabulate}
 use Rattle.ring.proofs.clear.Given as goal
 
 abbrev pub invariant-loop-i : goal.invariant-loop-i

@@ -1,7 +1,6 @@
 -- `ring::find_ring` meets its contract: the closed part of the walk from the lowest marked vertex, turned.
 -- Assumes nothing.
 use native.Mathlib.Omega.{arith}
-use borrow.Author.Rules.{rules}
 use Rattle.ring.specs.WalkLaws.{writes_none, writes_ring}
 use Rattle.ring.proofs.find_ring.Goals as goal
 

@@ -1,11 +1,7 @@
 -- `ring::lowest_marked` meets its contract: the search goes on from v.
 -- Assumes nothing.
-use mathlib.Core.Path.{◌≡◌, refl, sym, ◌∙◌}
-use mathlib.Core.Bool.{false}
-use Prim.Native.Nat.{◌-◌, ◌≤◌}
+use mathlib.Core.Path.{refl, sym, ◌∙◌}
 use native.Mathlib.Omega.{arith}
-use lib.ListN.{get_or}
-use Rattle.lists.specs.Search.{first_from}
 use Rattle.ring.specs.WalkLaws.{lowest_hit, lowest_next, lowest_end}
 use Rattle.ring.proofs.lowest_marked.Goals as goal
 
@@ -18,12 +14,11 @@ returns-then-is_marked c =
     (sym c.is_marked.ensures ∙ c.if-is_marked.true)
 
 pub loop-v-preserved : goal.loop-v-preserved
-loop-v-preserved c =
-    (
-      omega arith,
-      lowest_next c.args.marks.now c.loop-v.v c.loop-v.invariant.1 c.loop-v-test.true
-          (sym c.is_marked.ensures ∙ c.if-is_marked.false),
-    )
+loop-v-preserved c = (
+  omega arith,
+  lowest_next c.args.marks.now c.loop-v.v c.loop-v.invariant.1 c.loop-v-test.true
+      (sym c.is_marked.ensures ∙ c.if-is_marked.false),
+)
 
 pub returns : goal.returns
 returns c = lowest_end _ c.loop-v.v c.loop-v.invariant.1 c.loop-v-test.false

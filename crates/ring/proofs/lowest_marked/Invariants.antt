@@ -1,10 +1,8 @@
-use mathlib.Core.Path.{◌≡◌, refl, sym, ◌∙◌}
+use mathlib.Core.Path.{◌≡◌}
 use mathlib.Core.Bool.{false}
 use Prim.Native.Nat.{◌-◌, ◌≤◌}
-use native.Mathlib.Omega.{arith}
 use lib.ListN.{get_or}
 use Rattle.lists.specs.Search.{first_from}
-use Rattle.ring.specs.WalkLaws.{lowest_hit, lowest_next, lowest_end}
 use Rattle.ring.proofs.lowest_marked.Given as goal
 
 abbrev pub invariant-loop-v : goal.invariant-loop-v

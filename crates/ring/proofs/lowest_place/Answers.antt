@@ -1,9 +1,7 @@
 -- `ring::lowest_place` meets its contract: the lowest of those passed and its first place are kept.
 -- Assumes nothing.
-use Prim.Native.Nat.{◌-◌, ◌≤◌}
 use native.Mathlib.Omega.{arith}
-use lib.ListN.{length}
-use Rattle.ring.specs.WalkLaws.{Lowest, lowest_none, lowest_kept, lowest_new, lowest_place}
+use Rattle.ring.specs.WalkLaws.{lowest_none, lowest_kept, lowest_new, lowest_place}
 use Rattle.ring.proofs.lowest_place.Goals as goal
 
 pub loop-i-init : goal.loop-i-init

@@ -1,7 +1,6 @@
 use Prim.Native.Nat.{◌-◌, ◌≤◌}
-use native.Mathlib.Omega.{arith}
 use lib.ListN.{length}
-use Rattle.ring.specs.WalkLaws.{Lowest, lowest_none, lowest_kept, lowest_new, lowest_place}
+use Rattle.ring.specs.WalkLaws.{Lowest}
 use Rattle.ring.proofs.lowest_place.Given as goal
 
 abbrev pub invariant-loop-i : goal.invariant-loop-i

@@ -1,10 +1,7 @@
 -- `ring::place_of` meets its contract: what stands before v from i on tells the place.
 -- Assumes nothing.
-use mathlib.Core.Path.{◌≡◌}
-use Prim.Native.Nat.{◌+◌, ◌-◌, ◌≤◌}
 use native.Mathlib.Omega.{arith}
-use lib.ListN.{length, drop}
-use Rattle.ring.specs.WalkLaws.{place_in, place_hit, place_next, place_end}
+use Rattle.ring.specs.WalkLaws.{place_hit, place_next, place_end}
 use Rattle.ring.proofs.place_of.Goals as goal
 
 pub returns-then-part-i : goal.returns-then-part-i

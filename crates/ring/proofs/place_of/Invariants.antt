@@ -1,8 +1,7 @@
 use mathlib.Core.Path.{◌≡◌}
 use Prim.Native.Nat.{◌+◌, ◌-◌, ◌≤◌}
-use native.Mathlib.Omega.{arith}
 use lib.ListN.{length, drop}
-use Rattle.ring.specs.WalkLaws.{place_in, place_hit, place_next, place_end}
+use Rattle.ring.specs.WalkLaws.{place_in}
 use Rattle.ring.proofs.place_of.Given as goal
 
 abbrev pub invariant-loop-i : goal.invariant-loop-i

@@ -1,14 +1,9 @@
 -- `ring::walk` meets its contract: the walk goes on from v, with the first n of the buffer seen.
 -- Assumes nothing.
 use mathlib.Core.Path.{sym}
-use mathlib.Core.List.{[]}
-use Prim.Native.Nat.{◌-◌, ◌≤◌}
 use native.Mathlib.Omega.{arith}
-use lib.ListN.{length}
 use lib.Seq.{length-take-le}
-use Rattle.rules.specs.Greedy.{closed_part}
-use Rattle.ring.specs.Ring.{next_in}
-use Rattle.ring.specs.WalkLaws.{Walk, walk_starts, walk_closes, walk_goes, walk_ends}
+use Rattle.ring.specs.WalkLaws.{walk_starts, walk_closes, walk_goes, walk_ends}
 use Rattle.ring.proofs.walk.Goals as goal
 
 pub loop-n-init : goal.loop-n-init

@@ -1,12 +1,9 @@
-use mathlib.Core.Path.{sym}
 use mathlib.Core.List.{[]}
 use Prim.Native.Nat.{◌-◌, ◌≤◌}
-use native.Mathlib.Omega.{arith}
 use lib.ListN.{length}
-use lib.Seq.{length-take-le}
 use Rattle.rules.specs.Greedy.{closed_part}
 use Rattle.ring.specs.Ring.{next_in}
-use Rattle.ring.specs.WalkLaws.{Walk, walk_starts, walk_closes, walk_goes, walk_ends}
+use Rattle.ring.specs.WalkLaws.{Walk}
 use Rattle.ring.proofs.walk.Given as goal
 
 abbrev pub invariant-loop-n : goal.invariant-loop-n

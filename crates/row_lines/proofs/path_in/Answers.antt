@@ -1,6 +1,5 @@
 -- `row_lines::path_in` meets its contract: the part from byte 3 on is the path.
 -- Assumes nothing.
-use borrow.Author.Rules.{rules}
 use Rattle.laws.specs.TextLaws.{row_path_part, row_path_short}
 use Rattle.row_lines.proofs.path_in.Goals as goal
 

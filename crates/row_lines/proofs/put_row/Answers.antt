@@ -1,10 +1,9 @@
 -- `row_lines::put_row` meets its contract: 254 is absent; otherwise four pieces behind each other.
 -- Assumes nothing.
 use native.Mathlib.Omega.{arith}
-use borrow.Author.Rules.{rules}
 use Rattle.rules.specs.Text.{codes}
 use Rattle.laws.specs.TextLaws.{row_absent, row_present}
-use Rattle.text_writing.specs.LayLaws.{laid_then, laid_nothing, laid_as, laid_length}
+use Rattle.text_writing.specs.LayLaws.{laid_then, laid_nothing, laid_as}
 use Rattle.row_lines.proofs.put_row.Goals as goal
 
 pub returns-then-byte_at-eq-ABSENT : goal.returns-then-byte_at-eq-ABSENT

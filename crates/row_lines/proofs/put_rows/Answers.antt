@@ -1,12 +1,10 @@
 -- `row_lines::put_rows` meets its contract: the lines of the vertices up to v are laid.
 -- Assumes nothing.
 use mathlib.Core.Path.{◌≡◌, ap}
-use Prim.Native.Nat.{◌≤◌, ◌-◌}
 use native.Mathlib.Omega.{arith}
 use Rattle.rules.specs.Text.{row_lines}
 use Rattle.laws.specs.TextLaws.{rows_none, rows_more}
-use Rattle.text_writing.specs.Lay.{Laid}
-use Rattle.text_writing.specs.LayLaws.{laid_then, laid_nothing, laid_as, laid_length}
+use Rattle.text_writing.specs.LayLaws.{laid_then, laid_nothing, laid_as}
 use Rattle.row_lines.proofs.put_rows.Goals as goal
 
 pub loop-v-init : goal.loop-v-init

@@ -1,10 +1,6 @@
-use mathlib.Core.Path.{◌≡◌, ap}
 use Prim.Native.Nat.{◌≤◌, ◌-◌}
-use native.Mathlib.Omega.{arith}
 use Rattle.rules.specs.Text.{row_lines}
-use Rattle.laws.specs.TextLaws.{rows_none, rows_more}
 use Rattle.text_writing.specs.Lay.{Laid}
-use Rattle.text_writing.specs.LayLaws.{laid_then, laid_nothing, laid_as, laid_length}
 use Rattle.row_lines.proofs.put_rows.Given as goal
 
 abbrev pub invariant-loop-v : goal.invariant-loop-v

@@ -1,10 +1,9 @@
 -- `row_lines::put_stage` meets its contract: 255 is stuck, another byte a stage.
 -- Assumes nothing.
 use native.Mathlib.Omega.{arith}
-use borrow.Author.Rules.{rules}
 use Rattle.rules.specs.Text.{codes, labelled}
 use Rattle.laws.specs.TextLaws.{stage_stuck, stage_some}
-use Rattle.text_writing.specs.LayLaws.{laid_as, laid_length}
+use Rattle.text_writing.specs.LayLaws.{laid_as}
 use Rattle.row_lines.proofs.put_stage.Goals as goal
 
 pub returns-then-stage : goal.returns-then-stage

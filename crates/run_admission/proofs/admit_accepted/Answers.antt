@@ -1,7 +1,6 @@
 -- `run_admission::admit_accepted` meets its contract: each way through it has its refusal, or what the run relies on.
 -- Assumes nothing.
 use mathlib.Core.Path.{refl}
-use borrow.Author.Rules.{rules}
 use Rattle.admission.specs.JudgedLaws.{surveyed}
 use Rattle.run_admission.specs.RunAdmittedLaws.{odd_bad, long_bad, heard_refused, length_refused, pair_refused, all_admitted}
 use Rattle.run_admission.proofs.admit_accepted.Goals as goal

@@ -1,7 +1,6 @@
 -- `run_admission::admit_run` meets its contract: each way through it has its refusal, or is that of an accepted table.
 -- Assumes nothing.
 use mathlib.Core.Path.{sym, ◌∙◌}
-use borrow.Author.Rules.{rules}
 use Rattle.laws.specs.AnswerLaws.{run_refused_length, run_refused_sums, run_refused_table}
 use Rattle.reader.specs.ReadingLaws.{reading_accepted, reading_refused}
 use Rattle.run_admission.specs.RunAdmittedLaws.{admitted_not}

@@ -1,6 +1,5 @@
 -- `run_entry::run_for_c` meets its contract: a wrong buffer, the sums and numbers of the run, or the library's refusal.
 -- Assumes nothing.
-use borrow.Author.Rules.{rules}
 use native.Mathlib.Omega.{arith}
 use Rattle.run_entry.specs.RunCallLaws.{run_not_summed, run_not_lent, run_accepted, run_refused, run_small}
 use Rattle.run_entry.proofs.run_for_c.Goals as goal

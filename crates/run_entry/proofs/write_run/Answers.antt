@@ -1,6 +1,5 @@
 -- `run_entry::write_run` meets its contract: the numbers are the answer's, in its order, then 0.
 -- Assumes nothing.
-use borrow.Author.Rules.{rules}
 use mathlib.Core.Path.{ap, ◌∙◌}
 use mathlib.Core.List.{List}
 use Prim.Native.Nat.{ℕ}

@@ -1,7 +1,6 @@
 -- `run_lines::print_run` meets its contract: the lines of each verdict behind each other.
 -- Assumes nothing.
-use borrow.Author.Rules.{rules}
-use Rattle.text_writing.specs.LayLaws.{laid_then, laid_as, laid_length}
+use Rattle.text_writing.specs.LayLaws.{laid_then, laid_as}
 use Rattle.run_lines.specs.RunVerdictTextLaws.{accepted_text, refused_text}
 use Rattle.run_lines.proofs.print_run.Goals as goal
 

@@ -1,10 +1,9 @@
 -- `run_lines::put_numbers` meets its contract: six pieces behind each other.
 -- Assumes nothing.
-use borrow.Author.Rules.{rules}
 use Rattle.rules.specs.Text.{codes, labelled}
 use Rattle.rules.specs.RunText.{run_line}
 use Rattle.answer.specs.Moves.{run_numbers_in}
-use Rattle.text_writing.specs.LayLaws.{laid_then, laid_length}
+use Rattle.text_writing.specs.LayLaws.{laid_then}
 use Rattle.run_lines.proofs.put_numbers.Goals as goal
 
 pub returns : goal.returns

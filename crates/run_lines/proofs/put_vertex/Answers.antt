@@ -1,11 +1,10 @@
 -- `run_lines::put_vertex` meets its contract: five pieces behind each other.
 -- Assumes nothing.
 use mathlib.Core.Path.{ap}
-use borrow.Author.Rules.{rules}
 use mir.Facts.{to_z-of_z}
 use Rattle.rules.specs.Text.{codes}
 use Rattle.rules.specs.RunText.{signed, vertex_line}
-use Rattle.text_writing.specs.LayLaws.{laid_then, laid_as, laid_length}
+use Rattle.text_writing.specs.LayLaws.{laid_then, laid_as}
 use Rattle.run_lines.proofs.put_vertex.Goals as goal
 
 pub returns : goal.returns

@@ -1,7 +1,6 @@
 -- `run_lines::ranked_record` meets its contract: rank 0 and the ranks past the slots have none.
 -- Assumes nothing.
 use native.Mathlib.Omega.{arith}
-use borrow.Author.Rules.{rules}
 use Rattle.run_lines.specs.ShownLaws.{ranked_none, ranked_past, ranked_some}
 use Rattle.run_lines.proofs.ranked_record.Goals as goal
 

@@ -1,7 +1,6 @@
 -- `run_lines::sum_at` meets its contract: past the end is 0.
 -- Assumes nothing.
 use mathlib.Core.Path.{sym}
-use borrow.Author.Rules.{rules}
 use lib.IntN.{pos}
 use lib.ListN.{get_or-eq_default}
 use Rattle.run_lines.proofs.sum_at.Goals as goal

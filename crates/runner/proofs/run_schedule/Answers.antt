@@ -1,7 +1,5 @@
 -- `runner::run_schedule` meets its contract: by the verdict of the admission it is refused, or worked.
 -- Assumes nothing.
-use mathlib.Core.Path.{refl}
-use borrow.Author.Rules.{rules}
 use Rattle.runner.specs.RanLaws.{ran_accepted, verdict_none, verdict_ready, verdict_refused}
 use Rattle.runner.proofs.run_schedule.Goals as goal
 

@@ -1,10 +1,7 @@
 -- `slices::any_outside` meets its contract: what is left from i on tells the answer.
 -- Assumes nothing.
-use mathlib.Core.Path.{◌≡◌, refl, sym, ◌∙◌}
-use Prim.Native.Nat.{◌≤◌, ◌-◌}
+use mathlib.Core.Path.{refl, sym, ◌∙◌}
 use native.Mathlib.Omega.{arith}
-use lib.ListN.{length, drop}
-use Rattle.lists.specs.Search.{any_in, outside}
 use Rattle.lists.specs.ListLaws.{scan_hit, scan_next, scan_end}
 use Rattle.slices.proofs.any_outside.Goals as goal
 

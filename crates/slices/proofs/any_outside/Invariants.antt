@@ -1,9 +1,7 @@
-use mathlib.Core.Path.{◌≡◌, refl, sym, ◌∙◌}
+use mathlib.Core.Path.{◌≡◌}
 use Prim.Native.Nat.{◌≤◌, ◌-◌}
-use native.Mathlib.Omega.{arith}
 use lib.ListN.{length, drop}
 use Rattle.lists.specs.Search.{any_in, outside}
-use Rattle.lists.specs.ListLaws.{scan_hit, scan_next, scan_end}
 use Rattle.slices.proofs.any_outside.Given as goal
 
 abbrev pub invariant-loop-i : goal.invariant-loop-i

@@ -1,7 +1,6 @@
 -- `slices::byte_at` meets its contract: past the end there is only the default.
 -- Assumes nothing.
 use mathlib.Core.Path.{sym}
-use borrow.Author.Rules.{rules}
 use lib.ListN.{get_or-eq_default}
 use Rattle.slices.proofs.byte_at.Goals as goal
 

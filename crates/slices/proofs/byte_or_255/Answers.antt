@@ -1,7 +1,6 @@
 -- `slices::byte_or_255` meets its contract: past the end there is only the default.
 -- Assumes nothing.
 use mathlib.Core.Path.{sym}
-use borrow.Author.Rules.{rules}
 use lib.ListN.{get_or-eq_default}
 use Rattle.lists.specs.ListLaws.{get_or_within}
 use Rattle.slices.proofs.byte_or_255.Goals as goal

@@ -1,9 +1,7 @@
-use mathlib.Core.Path.{◌≡◌, refl, sym, ◌∙◌}
+use mathlib.Core.Path.{◌≡◌}
 use Prim.Native.Nat.{◌≤◌, ◌-◌}
-use native.Mathlib.Omega.{arith}
-use lib.ListN.{length, get_or, take, length-set}
+use lib.ListN.{length, get_or, take}
 use Rattle.lists.specs.Fill.{tabulate}
-use Rattle.lists.specs.FillLaws.{tabulate_none, fill_more, fill_end, padded_tabulate}
 use Rattle.slices.proofs.fill_padded.Given as goal
 
 abbrev pub invariant-loop-at : goal.invariant-loop-at

@@ -1,12 +1,8 @@
 -- `slices::has_twice` meets its contract: the marks are those of the numbers before i, none of which stands twice.
 -- Assumes nothing.
-use mathlib.Core.Path.{◌≡◌, refl, sym, ◌∙◌}
-use mathlib.Core.Bool.{false}
-use Prim.Native.Nat.{◌≤◌, ◌-◌}
+use mathlib.Core.Path.{refl, sym, ◌∙◌}
 use native.Mathlib.Omega.{arith}
-use lib.ListN.{length, take}
-use Rattle.lists.specs.Search.{elem, twice}
-use Rattle.lists.specs.Fill.{tabulate}
+use Rattle.lists.specs.Search.{twice}
 use Rattle.lists.specs.ListLaws.{met_again, met_new, met_all}
 use Rattle.lists.specs.FillLaws.{met_none, met_mark, met_look}
 use Rattle.slices.proofs.has_twice.Goals as goal

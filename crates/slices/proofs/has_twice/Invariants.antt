@@ -1,12 +1,9 @@
-use mathlib.Core.Path.{◌≡◌, refl, sym, ◌∙◌}
+use mathlib.Core.Path.{◌≡◌}
 use mathlib.Core.Bool.{false}
 use Prim.Native.Nat.{◌≤◌, ◌-◌}
-use native.Mathlib.Omega.{arith}
 use lib.ListN.{length, take}
 use Rattle.lists.specs.Search.{elem, twice}
 use Rattle.lists.specs.Fill.{tabulate}
-use Rattle.lists.specs.ListLaws.{met_again, met_new, met_all}
-use Rattle.lists.specs.FillLaws.{met_none, met_mark, met_look}
 use Rattle.slices.proofs.has_twice.Given as goal
 
 abbrev pub invariant-loop-i : goal.invariant-loop-i

@@ -1,7 +1,6 @@
 -- `slices::mark` meets its contract: a store past the end changes nothing.
 -- Assumes nothing.
 use mathlib.Core.Path.{sym}
-use borrow.Author.Rules.{rules}
 use lib.Seq.{set_out}
 use Rattle.slices.proofs.mark.Goals as goal
 

@@ -1,10 +1,7 @@
 -- `slices::mark_all` meets its contract: what is left to mark from k on tells the marks.
 -- Assumes nothing.
-use mathlib.Core.Path.{◌≡◌, refl, sym, ◌∙◌}
-use Prim.Native.Nat.{◌≤◌, ◌-◌}
+use mathlib.Core.Path.{refl, sym, ◌∙◌}
 use native.Mathlib.Omega.{arith}
-use lib.ListN.{length, drop}
-use Rattle.lists.specs.Renew.{marked}
 use Rattle.lists.specs.FillLaws.{marked_next, marked_end}
 use Rattle.slices.proofs.mark_all.Goals as goal
 

@@ -1,9 +1,7 @@
-use mathlib.Core.Path.{◌≡◌, refl, sym, ◌∙◌}
+use mathlib.Core.Path.{◌≡◌}
 use Prim.Native.Nat.{◌≤◌, ◌-◌}
-use native.Mathlib.Omega.{arith}
 use lib.ListN.{length, drop}
 use Rattle.lists.specs.Renew.{marked}
-use Rattle.lists.specs.FillLaws.{marked_next, marked_end}
 use Rattle.slices.proofs.mark_all.Given as goal
 
 abbrev pub invariant-loop-k : goal.invariant-loop-k

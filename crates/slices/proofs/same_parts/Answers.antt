@@ -1,10 +1,7 @@
 -- `slices::same_parts` meets its contract: what is left from i on of both tells the answer.
 -- Assumes nothing.
-use mathlib.Core.Path.{◌≡◌, refl, sym}
-use Prim.Native.Nat.{◌≤◌, ◌-◌}
+use mathlib.Core.Path.{refl, sym}
 use native.Mathlib.Omega.{arith}
-use lib.ListN.{length, drop}
-use Rattle.lists.specs.Search.{same}
 use Rattle.lists.specs.ListLaws.{same_lengths, same_hit, same_next, same_end}
 use Rattle.slices.proofs.same_parts.Goals as goal
 

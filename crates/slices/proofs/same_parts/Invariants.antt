@@ -1,9 +1,7 @@
-use mathlib.Core.Path.{◌≡◌, refl, sym}
+use mathlib.Core.Path.{◌≡◌}
 use Prim.Native.Nat.{◌≤◌, ◌-◌}
-use native.Mathlib.Omega.{arith}
 use lib.ListN.{length, drop}
 use Rattle.lists.specs.Search.{same}
-use Rattle.lists.specs.ListLaws.{same_lengths, same_hit, same_next, same_end}
 use Rattle.slices.proofs.same_parts.Given as goal
 
 abbrev pub invariant-loop-i : goal.invariant-loop-i

@@ -1,6 +1,5 @@
 -- `step_entry::step_for_c` meets its contract: a wrong buffer, the movement, or the library's refusal.
 -- Assumes nothing.
-use borrow.Author.Rules.{rules}
 use native.Mathlib.Omega.{arith}
 use Rattle.step_entry.specs.StepCallLaws.{step_not_lent, step_accepted, step_refused, step_small}
 use Rattle.step_entry.proofs.step_for_c.Goals as goal

@@ -1,7 +1,5 @@
 -- `stepper::step_accepted` meets its contract: each way through it has its refusal, or the step.
 -- Assumes nothing.
-use borrow.Author.Rules.{rules}
-use borrow.Author.Tests.{not-true, not-false}
 use Rattle.pairs.specs.SlotPathLaws.{rows_slotted}
 use Rattle.admission.specs.JudgedLaws.{surveyed, survey_rows}
 use Rattle.stepper.specs.StepLaws.{way_heard, way_pair, way_worked, way_moved}

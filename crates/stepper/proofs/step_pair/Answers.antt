@@ -1,7 +1,6 @@
 -- `stepper::step_pair` meets its contract: each way through it has its refusal, or the step.
 -- Assumes nothing.
 use mathlib.Core.Path.{sym, ◌∙◌}
-use borrow.Author.Rules.{rules}
 use Rattle.laws.specs.AnswerLaws.{step_refused_length, step_refused_table}
 use Rattle.reader.specs.ReadingLaws.{reading_accepted, reading_refused}
 use Rattle.stepper.specs.StepLaws.{stepped_refused}

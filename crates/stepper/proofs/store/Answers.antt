@@ -1,7 +1,6 @@
 -- `stepper::store` meets its contract: past the end nothing is stored.
 -- Assumes nothing.
 use mathlib.Core.Path.{sym}
-use borrow.Author.Rules.{rules}
 use lib.Seq.{set_out}
 use Rattle.stepper.proofs.store.Goals as goal
 

@@ -1,6 +1,5 @@
 -- `stepper::work_pair` meets its contract: the bytes before and after give the movement.
 -- Assumes nothing.
-use native.Mathlib.Omega.{arith}
 use Rattle.stepper.specs.StepLaws.{pair_worked}
 use Rattle.stepper.proofs.work_pair.Goals as goal
 

@@ -1,11 +1,9 @@
 -- `table_facts::longest_hops` meets its contract: the greatest hops of the records below i.
 -- Assumes nothing.
 use mathlib.Core.Path.{◌≡◌, refl, sym}
-use Prim.Native.Nat.{◌≤◌, ◌-◌}
 use native.Mathlib.Omega.{arith}
-use Rattle.lists.specs.Search.{max_below}
 use Rattle.lists.specs.SearchLaws.{max_none}
-use Rattle.rules.specs.Table.{records, hops_at, longest}
+use Rattle.rules.specs.Table.{records, longest}
 use Rattle.laws.specs.PassLaws.{hops_more}
 use Rattle.table_facts.proofs.longest_hops.Goals as goal
 

@@ -1,10 +1,7 @@
-use mathlib.Core.Path.{◌≡◌, refl, sym}
+use mathlib.Core.Path.{◌≡◌}
 use Prim.Native.Nat.{◌≤◌, ◌-◌}
-use native.Mathlib.Omega.{arith}
 use Rattle.lists.specs.Search.{max_below}
-use Rattle.lists.specs.SearchLaws.{max_none}
-use Rattle.rules.specs.Table.{records, hops_at, longest}
-use Rattle.laws.specs.PassLaws.{hops_more}
+use Rattle.rules.specs.Table.{records, hops_at}
 use Rattle.table_facts.proofs.longest_hops.Given as goal
 
 abbrev pub invariant-loop-i : goal.invariant-loop-i

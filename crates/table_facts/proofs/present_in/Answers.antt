@@ -1,13 +1,11 @@
 -- `table_facts::present_in` meets its contract: the marks are those of the records below i.
 -- Assumes nothing.
-use mathlib.Core.Path.{◌≡◌, refl, sym, ap, ◌∙◌}
-use Prim.Native.Nat.{◌≤◌, ◌-◌}
+use mathlib.Core.Path.{refl, sym, ap, ◌∙◌}
 use native.Mathlib.Omega.{arith}
 use lib.ListN.{length}
-use Rattle.lists.specs.Fill.{tabulate}
 use Rattle.lists.specs.FillLaws.{tabulate_length}
 use Rattle.rules.specs.Table.{records}
-use Rattle.laws.specs.PassLaws.{named_below, names_none, names_more, names_all}
+use Rattle.laws.specs.PassLaws.{names_none, names_more, names_all}
 use Rattle.table_facts.proofs.present_in.Goals as goal
 
 pub loop-i-init : goal.loop-i-init

@@ -1,11 +1,8 @@
-use mathlib.Core.Path.{◌≡◌, refl, sym, ap, ◌∙◌}
+use mathlib.Core.Path.{◌≡◌}
 use Prim.Native.Nat.{◌≤◌, ◌-◌}
-use native.Mathlib.Omega.{arith}
-use lib.ListN.{length}
 use Rattle.lists.specs.Fill.{tabulate}
-use Rattle.lists.specs.FillLaws.{tabulate_length}
 use Rattle.rules.specs.Table.{records}
-use Rattle.laws.specs.PassLaws.{named_below, names_none, names_more, names_all}
+use Rattle.laws.specs.PassLaws.{named_below}
 use Rattle.table_facts.proofs.present_in.Given as goal
 
 abbrev pub invariant-loop-i : goal.invariant-loop-i

@@ -1,10 +1,10 @@
 -- `table_facts::slots_of` meets its contract: each record of a vertex takes its next slot.
 -- Assumes nothing.
 use mathlib.Core.Path.{◌≡◌, refl}
-use Prim.Native.Nat.{◌≤◌, ◌-◌, min}
+use Prim.Native.Nat.{min}
 use native.Mathlib.Omega.{arith}
 use Rattle.rules.specs.Table.{records}
-use Rattle.laws.specs.PassLaws.{Slotted, slots_skip, slots_full, slots_store, slots_none}
+use Rattle.laws.specs.PassLaws.{slots_skip, slots_full, slots_store, slots_none}
 use Rattle.table_facts.proofs.slots_of.Goals as goal
 
 pub loop-i-init : goal.loop-i-init

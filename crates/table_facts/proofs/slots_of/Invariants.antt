@@ -1,8 +1,7 @@
-use mathlib.Core.Path.{◌≡◌, refl}
+use mathlib.Core.Path.{◌≡◌}
 use Prim.Native.Nat.{◌≤◌, ◌-◌, min}
-use native.Mathlib.Omega.{arith}
 use Rattle.rules.specs.Table.{records}
-use Rattle.laws.specs.PassLaws.{Slotted, slots_skip, slots_full, slots_store, slots_none}
+use Rattle.laws.specs.PassLaws.{Slotted}
 use Rattle.table_facts.proofs.slots_of.Given as goal
 
 abbrev pub invariant-loop-i : goal.invariant-loop-i

@@ -1,6 +1,5 @@
 -- `tally::activate` meets its contract: what is left decides whether the round closes.
 -- Assumes nothing.
-use borrow.Author.Rules.{rules}
 use Rattle.tally.specs.StampLaws.{activated_told}
 use Rattle.tally.proofs.activate.Goals as goal
 

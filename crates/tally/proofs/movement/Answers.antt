@@ -1,6 +1,5 @@
 -- `tally::movement` meets its contract: standings are small, so their difference fits.
 -- Assumes nothing.
-use borrow.Author.Rules.{rules}
 use Rattle.tally.specs.CountingLaws.{move_fits, move_told}
 use Rattle.tally.proofs.movement.Goals as goal
 

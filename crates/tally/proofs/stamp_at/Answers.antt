@@ -1,7 +1,6 @@
 -- `tally::stamp_at` meets its contract: past the end there is only the default.
 -- Assumes nothing.
 use mathlib.Core.Path.{sym}
-use borrow.Author.Rules.{rules}
 use lib.ListN.{get_or-eq_default}
 use Rattle.tally.proofs.stamp_at.Goals as goal
 

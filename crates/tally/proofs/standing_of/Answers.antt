@@ -1,6 +1,5 @@
 -- `tally::standing_of` meets its contract.
 -- Assumes nothing.
-use borrow.Author.Rules.{rules}
 use Rattle.tally.specs.CountingLaws.{standing_zero, standing_past, standing_more}
 use Rattle.tally.proofs.standing_of.Goals as goal
 

@@ -1,9 +1,7 @@
 -- `text_writing::put` meets its contract: k bytes of the piece are laid.
 -- Assumes nothing.
-use Prim.Native.Nat.{◌-◌}
 use native.Mathlib.Omega.{arith}
-use lib.ListN.{length}
-use Rattle.text_writing.specs.LayLaws.{Laying, laying_start, laying_more, laying_full, laying_end}
+use Rattle.text_writing.specs.LayLaws.{laying_start, laying_more, laying_full, laying_end}
 use Rattle.text_writing.proofs.put.Goals as goal
 
 pub loop-k-init : goal.loop-k-init

@@ -1,7 +1,6 @@
 use Prim.Native.Nat.{◌-◌}
-use native.Mathlib.Omega.{arith}
 use lib.ListN.{length}
-use Rattle.text_writing.specs.LayLaws.{Laying, laying_start, laying_more, laying_full, laying_end}
+use Rattle.text_writing.specs.LayLaws.{Laying}
 use Rattle.text_writing.proofs.put.Given as goal
 
 abbrev pub invariant-loop-k : goal.invariant-loop-k

@@ -1,6 +1,6 @@
 -- `text_writing::put_labelled` meets its contract: the word, then the number behind it.
 -- Assumes nothing.
-use Rattle.text_writing.specs.LayLaws.{laid_then, laid_length}
+use Rattle.text_writing.specs.LayLaws.{laid_then}
 use Rattle.text_writing.proofs.put_labelled.Goals as goal
 
 pub returns : goal.returns

@@ -1,7 +1,6 @@
 -- `text_writing::put_number` meets its contract: the digits written are the piece laid.
 -- Assumes nothing.
 use mathlib.Core.Path.{refl}
-use borrow.Author.Rules.{rules}
 use Rattle.rules.specs.Text.{decimal}
 use Rattle.text_writing.specs.LayLaws.{laid_as}
 use Rattle.text_writing.specs.DigitLaws.{written_part}

@@ -1,11 +1,10 @@
 -- `text_writing::put_place` meets its contract: each name by the number.
 -- Assumes nothing.
 use native.Mathlib.Omega.{arith}
-use borrow.Author.Rules.{rules}
 use Rattle.lists.specs.Tests.{is_inside, below_out, above_out}
 use Rattle.rules.specs.Text.{codes, labelled}
 use Rattle.laws.specs.TextLaws.{place_record, place_offset, place_pair, place_none}
-use Rattle.text_writing.specs.LayLaws.{laid_nothing, laid_as, laid_length}
+use Rattle.text_writing.specs.LayLaws.{laid_nothing, laid_as}
 use Rattle.text_writing.proofs.put_place.Goals as goal
 
 pub returns-in-12 : goal.returns-in-12

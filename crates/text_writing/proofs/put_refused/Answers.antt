@@ -1,8 +1,7 @@
 -- `text_writing::put_refused` meets its contract: three pieces behind each other.
 -- Assumes nothing.
-use borrow.Author.Rules.{rules}
 use Rattle.rules.specs.Text.{codes, labelled, refused_line}
-use Rattle.text_writing.specs.LayLaws.{laid_then, laid_length}
+use Rattle.text_writing.specs.LayLaws.{laid_then}
 use Rattle.text_writing.proofs.put_refused.Goals as goal
 
 pub returns : goal.returns

@@ -1,10 +1,9 @@
 -- `text_writing::put_route` meets its contract: rank 0 is no path.
 -- Assumes nothing.
 use native.Mathlib.Omega.{arith}
-use borrow.Author.Rules.{rules}
 use Rattle.rules.specs.Text.{codes, labelled}
 use Rattle.laws.specs.TextLaws.{route_none, route_some}
-use Rattle.text_writing.specs.LayLaws.{laid_then, laid_as, laid_length}
+use Rattle.text_writing.specs.LayLaws.{laid_then, laid_as}
 use Rattle.text_writing.proofs.put_route.Goals as goal
 
 pub returns-then-rank-eq0 : goal.returns-then-rank-eq0

@@ -1,8 +1,7 @@
 -- `text_writing::put_signed` meets its contract: a sign below 0, then the size.
 -- Assumes nothing.
-use borrow.Author.Rules.{rules}
 use Rattle.rules.specs.Text.{codes}
-use Rattle.text_writing.specs.LayLaws.{laid_then, laid_as, laid_length}
+use Rattle.text_writing.specs.LayLaws.{laid_then, laid_as}
 use Rattle.text_writing.specs.SignedLetterLaws.{signed_plain, signed_below}
 use Rattle.text_writing.proofs.put_signed.Goals as goal
 

@@ -1,15 +1,11 @@
 -- `text_writing::put_spaced` meets its contract: the vertices below k are laid.
 -- Assumes nothing.
 use mathlib.Core.Path.{ap}
-use Prim.Native.Nat.{◌≤◌, ◌-◌}
 use native.Mathlib.Omega.{arith}
-use borrow.Author.Rules.{rules}
-use lib.ListN.{length, take}
 use lib.Seq.{take_all}
 use Rattle.rules.specs.Text.{codes, labelled, spaced}
 use Rattle.laws.specs.TextLaws.{spaced_more, spaced_none}
-use Rattle.text_writing.specs.Lay.{Laid}
-use Rattle.text_writing.specs.LayLaws.{laid_then, laid_nothing, laid_as, laid_length}
+use Rattle.text_writing.specs.LayLaws.{laid_then, laid_nothing, laid_as}
 use Rattle.text_writing.proofs.put_spaced.Goals as goal
 
 pub loop-k-init : goal.loop-k-init

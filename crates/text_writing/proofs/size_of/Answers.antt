@@ -1,6 +1,5 @@
 -- `text_writing::size_of` meets its contract: below 0 the size is one more than what is left of -1.
 -- Assumes nothing.
-use borrow.Author.Rules.{rules}
 use mir.Syntax.{w64}
 use Rattle.lists.specs.SignedLaws.{size_plain, left_fits, left_plain, size_fits, size_below}
 use Rattle.text_writing.proofs.size_of.Goals as goal

@@ -1,8 +1,7 @@
 -- `text_writing::write_digits` meets its contract: what is left to write before the place at, and what stands from
 -- there on, are the digits. Assumes nothing.
 use native.Mathlib.Omega.{arith}
-use lib.ListN.{length-set}
-use Rattle.text_writing.specs.DigitLaws.{Writing, writing_start, writing_more, writing_last, writing_full}
+use Rattle.text_writing.specs.DigitLaws.{writing_start, writing_more, writing_last, writing_full}
 use Rattle.text_writing.proofs.write_digits.Goals as goal
 
 pub loop-at-init : goal.loop-at-init

@@ -1,6 +1,4 @@
-use native.Mathlib.Omega.{arith}
-use lib.ListN.{length-set}
-use Rattle.text_writing.specs.DigitLaws.{Writing, writing_start, writing_more, writing_last, writing_full}
+use Rattle.text_writing.specs.DigitLaws.{Writing}
 use Rattle.text_writing.proofs.write_digits.Given as goal
 
 abbrev pub invariant-loop-at : goal.invariant-loop-at

@@ -2,7 +2,6 @@
 -- Assumes nothing.
 use native.Mathlib.Omega.{arith}
 use mathlib.Core.Path.{◌∙◌}
-use borrow.Author.Rules.{rules}
 use Rattle.words.specs.WordLaws.{over_other, over_same, numbers_size, numbers_eight}
 use Rattle.words.proofs.write_numbers.Goals as goal
 

@@ -1,14 +1,10 @@
 -- `words::write_sums` meets its contract: the complements of the sums below v stand.
 -- Assumes nothing.
-use mathlib.Core.Path.{◌≡◌, refl, sym, ap, ◌∙◌}
-use borrow.Author.Rules.{rules}
-use Prim.Native.Nat.{◌≤◌, ◌-◌}
+use mathlib.Core.Path.{refl, sym, ap, ◌∙◌}
 use native.Mathlib.Omega.{arith}
-use lib.ListN.{length, get_or, take, length-set}
-use lib.IntN.{pos}
+use lib.ListN.{length-set}
 use mir.Syntax.{w32}
 use mir.Facts.{to_z-of_z}
-use Rattle.lists.specs.Fill.{tabulate}
 use Rattle.lists.specs.FillLaws.{tabulate_none, fill_more, fill_end}
 use Rattle.rules.specs.Entries.{twos_complement}
 use Rattle.words.specs.WordLaws.{over_other, over_same, sums_size, sums_words}

@@ -1,6 +1,5 @@
 -- `words::write_word` meets its contract: four stores fill the part.
 -- Assumes nothing.
-use borrow.Author.Rules.{rules}
 use Rattle.words.specs.WordLaws.{word_written}
 use Rattle.words.proofs.write_word.Goals as goal
 

@@ -1,11 +1,8 @@
 -- `words::write_words` meets its contract: the numbers below k stand.
 -- Assumes nothing.
-use mathlib.Core.Path.{◌≡◌, sym, ◌∙◌}
-use Prim.Native.Nat.{◌≤◌, ◌-◌, ◌*◌}
+use Prim.Native.Nat.{◌*◌}
 use native.Mathlib.Omega.{arith}
-use lib.ListN.{length, take}
 use Rattle.lists.specs.Parts.{part_length}
-use Rattle.rules.specs.Entries.{word_bytes}
 use Rattle.words.specs.WordLaws.{words_none, words_more, words_all}
 use Rattle.words.proofs.write_words.Goals as goal
 

@@ -1,16 +1,10 @@
 -- `checker::settle::settle` meets its contract: the marks and records are those after s stages.
 -- Assumes nothing.
-use mathlib.Core.Path.{◌≡◌, sym, ap, ◌∙◌}
-use mathlib.Core.Option.{none}
-use Prim.Native.Nat.{◌≤◌, ◌-◌, min}
+use mathlib.Core.Path.{sym, ap, ◌∙◌}
 use native.Mathlib.Omega.{arith}
 use lib.ListN.{length}
 use Rattle.lists.specs.FillLaws.{tabulate_length}
-use Rattle.rules.specs.Table.{records, paths_of, present, slots_of}
-use Rattle.rules.specs.Refusals.{refusal}
-use Rattle.rules.specs.Greedy.{stage_count}
 use Rattle.laws.specs.GreedyLaws.{stages_most}
-use Rattle.checker.specs.AfterStages.{Stands}
 use Rattle.checker.specs.LastStageLaws.{settle_start, settle_more, settle_end}
 use Rattle.checker.proofs.settle.settle.Goals as goal
 

@@ -1,15 +1,10 @@
-use mathlib.Core.Path.{◌≡◌, sym, ap, ◌∙◌}
+use mathlib.Core.Path.{◌≡◌}
 use mathlib.Core.Option.{none}
 use Prim.Native.Nat.{◌≤◌, ◌-◌, min}
-use native.Mathlib.Omega.{arith}
-use lib.ListN.{length}
-use Rattle.lists.specs.FillLaws.{tabulate_length}
 use Rattle.rules.specs.Table.{records, paths_of, present, slots_of}
 use Rattle.rules.specs.Refusals.{refusal}
 use Rattle.rules.specs.Greedy.{stage_count}
-use Rattle.laws.specs.GreedyLaws.{stages_most}
 use Rattle.checker.specs.AfterStages.{Stands}
-use Rattle.checker.specs.LastStageLaws.{settle_start, settle_more, settle_end}
 use Rattle.checker.proofs.settle.settle.Given as goal
 
 abbrev pub invariant-loop-slots : goal.invariant-loop-slots

@@ -1,13 +1,10 @@
 -- `checker::settle::start_marks` meets its contract: below v stand the marks at the start.
 -- Assumes nothing.
-use mathlib.Core.Path.{◌≡◌, refl, sym, ◌∙◌}
-use mathlib.Core.Bool.{false}
-use Prim.Native.Nat.{ℕ, ◌≤◌, ◌-◌}
+use mathlib.Core.Path.{refl, sym, ◌∙◌}
+use Prim.Native.Nat.{ℕ}
 use native.Mathlib.Omega.{arith}
-use lib.ListN.{length, get_or, take, length-set, length-replicate}
-use Rattle.lists.specs.Fill.{tabulate}
+use lib.ListN.{length-set, length-replicate}
 use Rattle.lists.specs.FillLaws.{tabulate_none, fill_more, fill_end}
-use Rattle.checker.specs.AfterStages.{start_mark}
 use Rattle.checker.specs.StartLaws.{start_same}
 use Rattle.checker.proofs.settle.start_marks.Goals as goal
 

@@ -1,12 +1,9 @@
-use mathlib.Core.Path.{◌≡◌, refl, sym, ◌∙◌}
+use mathlib.Core.Path.{◌≡◌}
 use mathlib.Core.Bool.{false}
-use Prim.Native.Nat.{ℕ, ◌≤◌, ◌-◌}
-use native.Mathlib.Omega.{arith}
-use lib.ListN.{length, get_or, take, length-set, length-replicate}
+use Prim.Native.Nat.{◌≤◌, ◌-◌}
+use lib.ListN.{length, get_or, take}
 use Rattle.lists.specs.Fill.{tabulate}
-use Rattle.lists.specs.FillLaws.{tabulate_none, fill_more, fill_end}
 use Rattle.checker.specs.AfterStages.{start_mark}
-use Rattle.checker.specs.StartLaws.{start_same}
 use Rattle.checker.proofs.settle.start_marks.Given as goal
 
 abbrev pub invariant-loop-v : goal.invariant-loop-v

@@ -1,6 +1,5 @@
 -- `published::states::changes_at` meets its contract: what the step leaves is compared with what was there.
 -- Assumes nothing.
-use borrow.Author.Rules.{rules}
 use Rattle.published.specs.StateLaws.{change_told}
 use Rattle.published.proofs.states.changes_at.Goals as goal
 

@@ -1,11 +1,7 @@
 -- `published::states::some_step_changes` meets its contract: no pair below k has changed the state.
 -- Assumes nothing.
-use mathlib.Core.Path.{◌≡◌, sym, ◌∙◌}
-use mathlib.Core.Bool.{false}
-use Prim.Native.Nat.{◌≤◌, ◌-◌}
+use mathlib.Core.Path.{sym, ◌∙◌}
 use native.Mathlib.Omega.{arith}
-use Rattle.lists.specs.Search.{any_below}
-use Rattle.theorems.specs.Published.{changes_at}
 use Rattle.published.specs.StateLaws.{change_start, change_found, change_next, change_none}
 use Rattle.published.proofs.states.some_step_changes.Goals as goal
 
@@ -20,8 +16,7 @@ returns-then-changes_at c =
     change_found _ _ _ c.loop-k-test.true (sym c.changes_at.ensures ∙ c.if-changes_at.true)
 
 pub loop-k-preserved : goal.loop-k-preserved
-loop-k-preserved c =
-    (
+loop-k-preserved c = (
   omega arith,
   change_next _ _ _ c.loop-k.invariant.1 (sym c.changes_at.ensures ∙ c.if-changes_at.false),
 )

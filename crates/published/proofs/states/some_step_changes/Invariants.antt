@@ -1,10 +1,8 @@
-use mathlib.Core.Path.{◌≡◌, sym, ◌∙◌}
+use mathlib.Core.Path.{◌≡◌}
 use mathlib.Core.Bool.{false}
 use Prim.Native.Nat.{◌≤◌, ◌-◌}
-use native.Mathlib.Omega.{arith}
 use Rattle.lists.specs.Search.{any_below}
 use Rattle.theorems.specs.Published.{changes_at}
-use Rattle.published.specs.StateLaws.{change_start, change_found, change_next, change_none}
 use Rattle.published.proofs.states.some_step_changes.Given as goal
 
 abbrev pub invariant-loop-k : goal.invariant-loop-k

@@ -2,7 +2,6 @@
 -- Assumes nothing.
 use mathlib.Core.Path.{refl}
 use native.Mathlib.Omega.{arith}
-use borrow.Author.Rules.{rules}
 use Rattle.rules.specs.Table.{records}
 use Rattle.reader.specs.FrontLaws.{alone_part}
 use Rattle.reader.proofs.faults.alone.Goals as goal

@@ -124,14 +124,13 @@ returns-then-rank_bad c =
     past_stop _ _ 6 _ _ refl p6 c.rank_bad.ensures c.if-rank_bad.true
 
 pub path_bad-requires : goal.path_bad-requires
-path_bad-requires c =
-    (
-      c.requires.0,
-      hops12 _ _ c.alone-r.ensures c.hops_bad.ensures c.if-hops_bad.false,
-      orderly_more _ _ c.requires.1
-          (sym c.owner_bad.ensures ∙ c.if-owner_bad.false)
-          (sym c.rank_bad.ensures ∙ c.if-rank_bad.false),
-    )
+path_bad-requires c = (
+  c.requires.0,
+  hops12 _ _ c.alone-r.ensures c.hops_bad.ensures c.if-hops_bad.false,
+  orderly_more _ _ c.requires.1
+      (sym c.owner_bad.ensures ∙ c.if-owner_bad.false)
+      (sym c.rank_bad.ensures ∙ c.if-rank_bad.false),
+)
 
 pub returns-then-path_bad : goal.returns-then-path_bad
 unfolding record_rules rule in_record

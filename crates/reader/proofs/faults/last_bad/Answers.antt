@@ -1,6 +1,5 @@
 -- `reader::faults::last_bad` meets its contract: it is the byte behind the hops.
 -- Assumes nothing.
-use borrow.Author.Rules.{rules}
 use Rattle.laws.specs.TableLaws.{last_seen}
 use Rattle.reader.proofs.faults.last_bad.Goals as goal
 

@@ -1,6 +1,5 @@
 -- `reader::faults::owner_bad` meets its contract: the two tests are those of the definition.
 -- Assumes nothing.
-use borrow.Author.Rules.{rules}
 use Rattle.rules.specs.Refusals.{owner_bad}
 use Rattle.laws.specs.TableLaws.{owner_bad_later}
 use Rattle.reader.proofs.faults.owner_bad.Goals as goal

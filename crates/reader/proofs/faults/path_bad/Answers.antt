@@ -1,10 +1,8 @@
 -- `reader::faults::path_bad` meets its contract: the block of the owner begins where its rank says, and no record
 -- before it has the path. Assumes nothing.
 use mathlib.Core.Path.{◌≡◌, refl, ap, ◌∙◌}
-use mathlib.Core.Bool.{false}
-use Prim.Native.Nat.{ℕ, ◌+◌, ◌≤◌, ◌-◌}
+use Prim.Native.Nat.{ℕ, ◌+◌}
 use native.Mathlib.Omega.{arith}
-use Rattle.lists.specs.Search.{any_below}
 use mathlib.Core.List.{List}
 use Rattle.rules.specs.Table.{record_at, records, hops_of, rank_of, hops_at, rank_at}
 use Rattle.laws.specs.TableLaws.{block_fits, block_start, path_hit, path_next, path_end}
@@ -39,11 +37,10 @@ loop-j-init c =
     (omega arith, block_start _ _ o _ (rank-read c))
 
 pub front_at-requires : goal.front_at-requires
-front_at-requires c =
-    (
-      omega (arith, c.requires.0),
-      omega (arith, c.requires.1, c.hops_at.ensures ∙ ap hops_of (alone_record _ _ c.alone-r.ensures)),
-    )
+front_at-requires c = (
+  omega (arith, c.requires.0),
+  omega (arith, c.requires.1, c.hops_at.ensures ∙ ap hops_of (alone_record _ _ c.alone-r.ensures)),
+)
 
 -- so many bytes stand in front of record i as are compared
 count-read : (t : List ℕ) (i : ℕ) {r : List ℕ} {h : ℕ} → r ≡ record_at t i → h ≡ hops_at r 0 → h + 2 ≡ hops_at t i + 2

@@ -1,11 +1,8 @@
-use mathlib.Core.Path.{◌≡◌, refl, ap, ◌∙◌}
+use mathlib.Core.Path.{◌≡◌}
 use mathlib.Core.Bool.{false}
-use Prim.Native.Nat.{ℕ, ◌+◌, ◌≤◌, ◌-◌}
-use native.Mathlib.Omega.{arith}
+use Prim.Native.Nat.{◌≤◌, ◌-◌}
 use Rattle.lists.specs.Search.{any_below}
-use Rattle.rules.specs.Table.{records, hops_of, rank_of, hops_at, rank_at}
-use Rattle.laws.specs.TableLaws.{same_path, block_fits, block_start, path_hit, path_next, path_end}
-use Rattle.reader.specs.FrontLaws.{alone_record, front_same}
+use Rattle.laws.specs.TableLaws.{same_path}
 use Rattle.reader.proofs.faults.path_bad.Given as goal
 
 abbrev pub invariant-loop-j : goal.invariant-loop-j

@@ -1,6 +1,5 @@
 -- `reader::faults::rank_bad` meets its contract: the two tests are those of the definition.
 -- Assumes nothing.
-use borrow.Author.Rules.{rules}
 use Rattle.laws.specs.TableLaws.{rank_high, rank_other}
 use Rattle.reader.proofs.faults.rank_bad.Goals as goal
 

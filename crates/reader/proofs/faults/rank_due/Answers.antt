@@ -1,6 +1,5 @@
 -- `reader::faults::rank_due` meets its contract: the two tests are those of the definition.
 -- Assumes nothing.
-use borrow.Author.Rules.{rules}
 use Rattle.rules.specs.Refusals.{rank_due}
 use Rattle.laws.specs.TableLaws.{rank_due_new, rank_due_same}
 use Rattle.reader.proofs.faults.rank_due.Goals as goal

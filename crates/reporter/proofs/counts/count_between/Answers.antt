@@ -1,10 +1,8 @@
 -- `reporter::counts::count_between` meets its contract: the count of the vertices below v.
 -- Assumes nothing.
 use mathlib.Core.Path.{◌≡◌}
-use Prim.Native.Nat.{◌≤◌, ◌-◌}
 use native.Mathlib.Omega.{arith}
-use Rattle.lists.specs.Search.{count_below}
-use Rattle.reporter.specs.Showing.{is_between, count_between}
+use Rattle.reporter.specs.Showing.{count_between}
 use Rattle.reporter.specs.ShowingLaws.{count_none, count_skip, count_more, count_small}
 use Rattle.reporter.proofs.counts.count_between.Goals as goal
 

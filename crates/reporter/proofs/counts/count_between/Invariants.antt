@@ -1,9 +1,7 @@
 use mathlib.Core.Path.{◌≡◌}
 use Prim.Native.Nat.{◌≤◌, ◌-◌}
-use native.Mathlib.Omega.{arith}
 use Rattle.lists.specs.Search.{count_below}
-use Rattle.reporter.specs.Showing.{is_between, count_between}
-use Rattle.reporter.specs.ShowingLaws.{count_none, count_skip, count_more, count_small}
+use Rattle.reporter.specs.Showing.{is_between}
 use Rattle.reporter.proofs.counts.count_between.Given as goal
 
 abbrev pub invariant-loop-v : goal.invariant-loop-v

@@ -1,12 +1,10 @@
 -- `reporter::followers::next_in` meets its contract: below v stand the numbers that follow.
 -- Assumes nothing.
-use mathlib.Core.Path.{◌≡◌, refl, sym, ◌∙◌}
-use Prim.Native.Nat.{ℕ, ◌≤◌, ◌-◌}
+use mathlib.Core.Path.{refl, sym, ◌∙◌}
+use Prim.Native.Nat.{ℕ}
 use native.Mathlib.Omega.{arith}
-use lib.ListN.{length, take, length-set, length-replicate}
-use Rattle.lists.specs.Fill.{tabulate}
+use lib.ListN.{length-set, length-replicate}
 use Rattle.lists.specs.FillLaws.{tabulate_none, fill_more, fill_end}
-use Rattle.reporter.specs.Showing.{shown_next}
 use Rattle.reporter.specs.ShowingLaws.{next_shown_lem}
 use Rattle.reporter.proofs.followers.next_in.Goals as goal
 

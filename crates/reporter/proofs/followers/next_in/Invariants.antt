@@ -1,11 +1,8 @@
-use mathlib.Core.Path.{◌≡◌, refl, sym, ◌∙◌}
-use Prim.Native.Nat.{ℕ, ◌≤◌, ◌-◌}
-use native.Mathlib.Omega.{arith}
-use lib.ListN.{length, take, length-set, length-replicate}
+use mathlib.Core.Path.{◌≡◌}
+use Prim.Native.Nat.{◌≤◌, ◌-◌}
+use lib.ListN.{length, take}
 use Rattle.lists.specs.Fill.{tabulate}
-use Rattle.lists.specs.FillLaws.{tabulate_none, fill_more, fill_end}
 use Rattle.reporter.specs.Showing.{shown_next}
-use Rattle.reporter.specs.ShowingLaws.{next_shown_lem}
 use Rattle.reporter.proofs.followers.next_in.Given as goal
 
 abbrev pub invariant-loop-v : goal.invariant-loop-v

@@ -1,13 +1,11 @@
 -- `reporter::followers::stuck_in` meets its contract: below v stand the marks of the stuck.
 -- Assumes nothing.
-use mathlib.Core.Path.{◌≡◌, refl, sym, ◌∙◌}
+use mathlib.Core.Path.{refl, sym, ◌∙◌}
 use mathlib.Core.Bool.{false}
-use Prim.Native.Nat.{◌≤◌, ◌-◌}
 use native.Mathlib.Omega.{arith}
-use lib.ListN.{length, take, length-set, length-replicate}
-use Rattle.lists.specs.Fill.{tabulate}
+use lib.ListN.{length-set, length-replicate}
 use Rattle.lists.specs.FillLaws.{fill_more, fill_end}
-use Rattle.reporter.specs.Showing.{is_between, stuck_marks}
+use Rattle.reporter.specs.Showing.{stuck_marks}
 use Rattle.reporter.specs.ShowingLaws.{stuck_first, stuck_next}
 use Rattle.reporter.proofs.followers.stuck_in.Goals as goal
 

@@ -1,12 +1,8 @@
-use mathlib.Core.Path.{◌≡◌, refl, sym, ◌∙◌}
-use mathlib.Core.Bool.{false}
+use mathlib.Core.Path.{◌≡◌}
 use Prim.Native.Nat.{◌≤◌, ◌-◌}
-use native.Mathlib.Omega.{arith}
-use lib.ListN.{length, take, length-set, length-replicate}
+use lib.ListN.{length, take}
 use Rattle.lists.specs.Fill.{tabulate}
-use Rattle.lists.specs.FillLaws.{fill_more, fill_end}
-use Rattle.reporter.specs.Showing.{is_between, stuck_marks}
-use Rattle.reporter.specs.ShowingLaws.{stuck_first, stuck_next}
+use Rattle.reporter.specs.Showing.{is_between}
 use Rattle.reporter.proofs.followers.stuck_in.Given as goal
 
 abbrev pub invariant-loop-v : goal.invariant-loop-v

@@ -1,7 +1,6 @@
 -- `reporter::followers::write_ring` meets its contract: no ring where nobody waits, otherwise that of the marks and numbers found.
 -- Assumes nothing.
 use mathlib.Core.Path.{sym, ◌∙◌}
-use borrow.Author.Rules.{rules}
 use Rattle.reporter.specs.Reported.{ring_none, ring_told}
 use Rattle.reporter.proofs.followers.write_ring.Goals as goal
 

@@ -1,7 +1,6 @@
 -- `run_admission::schedule::number_of` meets its contract: each way through it has its number.
 -- Assumes nothing.
 use native.Mathlib.Omega.{arith}
-use borrow.Author.Rules.{rules}
 use Rattle.pairs.specs.NextHopLaws.{slot_small}
 use Rattle.run_admission.specs.ScheduleWalkLaws.{number_past, number_other, number_none, number_some}
 use Rattle.run_admission.proofs.schedule.number_of.Goals as goal

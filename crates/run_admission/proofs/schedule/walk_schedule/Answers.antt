@@ -1,9 +1,6 @@
 -- `run_admission::schedule::walk_schedule` meets its contract: before i all listen, and the stamps are the run's.
 -- Assumes nothing.
-use Prim.Native.Nat.{◌≤◌, ◌-◌, ◌/◌}
 use native.Mathlib.Omega.{arith}
-use lib.ListN.{length}
-use Rattle.run_admission.specs.ScheduleWalk.{Walking}
 use Rattle.run_admission.specs.ScheduleWalkLaws.{walk_start, walk_bad, walk_next, walk_end}
 use Rattle.run_admission.proofs.schedule.walk_schedule.Goals as goal
 

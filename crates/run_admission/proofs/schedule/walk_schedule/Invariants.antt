@@ -1,8 +1,6 @@
 use Prim.Native.Nat.{◌≤◌, ◌-◌, ◌/◌}
-use native.Mathlib.Omega.{arith}
 use lib.ListN.{length}
 use Rattle.run_admission.specs.ScheduleWalk.{Walking}
-use Rattle.run_admission.specs.ScheduleWalkLaws.{walk_start, walk_bad, walk_next, walk_end}
 use Rattle.run_admission.proofs.schedule.walk_schedule.Given as goal
 
 abbrev pub invariant-loop-i : goal.invariant-loop-i

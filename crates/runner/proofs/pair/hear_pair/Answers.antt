@@ -1,7 +1,6 @@
 -- `runner::pair::hear_pair` meets its contract: the byte is there already, or the movement's sum fits.
 -- Assumes nothing.
 use native.Mathlib.Omega.{arith}
-use borrow.Author.Rules.{rules}
 use Rattle.tally.specs.CountingLaws.{small_told, moved_small}
 use Rattle.runner.specs.TakingLaws.{taken_same, taken_new}
 use Rattle.runner.proofs.pair.hear_pair.Goals as goal

@@ -1,13 +1,7 @@
 -- `runner::work::work` meets its contract: after i pairs all stands as in the rules' run over the first i pairs.
 -- Assumes nothing.
-use Prim.Native.Nat.{◌≤◌, ◌-◌, ◌/◌}
 use native.Mathlib.Omega.{arith}
-use lib.ListN.{length}
-use Rattle.rules.specs.Table.{paths_of}
-use Rattle.run_admission.specs.RunAdmitted.{Ready}
-use Rattle.stepper.specs.Working.{Asks}
 use Rattle.stepper.specs.StepLaws.{asks_told}
-use Rattle.runner.specs.Going.{Going}
 use Rattle.runner.specs.GoingLaws.{going_start, going_takes, going_more, going_end}
 use Rattle.runner.proofs.work.work.Goals as goal
 

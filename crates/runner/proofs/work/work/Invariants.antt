@@ -1,12 +1,9 @@
 use Prim.Native.Nat.{◌≤◌, ◌-◌, ◌/◌}
-use native.Mathlib.Omega.{arith}
 use lib.ListN.{length}
 use Rattle.rules.specs.Table.{paths_of}
 use Rattle.run_admission.specs.RunAdmitted.{Ready}
 use Rattle.stepper.specs.Working.{Asks}
-use Rattle.stepper.specs.StepLaws.{asks_told}
 use Rattle.runner.specs.Going.{Going}
-use Rattle.runner.specs.GoingLaws.{going_start, going_takes, going_more, going_end}
 use Rattle.runner.proofs.work.work.Given as goal
 
 abbrev pub invariant-loop-i : goal.invariant-loop-i
