@@ -7,7 +7,7 @@ use Rattle.std.proofs.Math.Option.{none, some}
 use Rattle.std.proofs.lemmas.Bool.{eqb-false, not-true, not-false}
 use Rattle.lists.specs.Search.{first_from}
 use Rattle.lists.specs.Tests.{by_equal, by_less, by_option, none≢some}
-use Rattle.lists.specs.SearchLaws.{first_none, first_found}
+use Rattle.lists.proofs.SearchLaws.{first_none, first_found}
 use Rattle.rules.specs.Table.{records}
 use Rattle.rules.specs.Refusals.{Refusal, refusal, fault, faulty, first_bad}
 use Rattle.laws.specs.TableLaws.{at, fault_range, refused_long, refused_ragged, refused_record, not_refused}

@@ -8,7 +8,7 @@ use native.Mathlib.Omega.{arith}
 use Rattle.std.proofs.Math.ListN.{length}
 use Rattle.lists.specs.Search.{first_from}
 use Rattle.lists.specs.Tests.{by_test, by_less, by_equal, by_option, true≢}
-use Rattle.lists.specs.SearchLaws.{first_found, first_none}
+use Rattle.lists.proofs.SearchLaws.{first_found, first_none}
 use Rattle.rules.specs.Table.{Path}
 use Rattle.rules.specs.Greedy.{closed_part, turned, ring_from}
 use Rattle.laws.specs.Shape.{Shaped}

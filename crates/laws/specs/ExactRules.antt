@@ -12,7 +12,8 @@ use Rattle.std.proofs.lemmas.Bool.{not-false}
 use Rattle.lists.specs.Search.{any_in, outside, same}
 use Rattle.lists.specs.Tests.{by_test, by_equal, by_less, or_none, neither, inside, is_inside, true≢}
 use Rattle.lists.specs.SearchLaws.{all_fail, none_below}
-use Rattle.lists.specs.ListLaws.{none_at, some_at, differ, differs, twice_apart, apart_twice}
+use Rattle.lists.specs.ListLaws.{none_at, some_at, differ, differs}
+use Rattle.lists.proofs.ListLaws.{twice_apart, apart_twice}
 use Rattle.rules.specs.Table.{Path, records, record_at, rank_of, hops_of, path_of, owner_of, rank_at, hops_at, path_at, owner_at}
 use Rattle.rules.specs.Refusals.{Rule, rule, in_record, record_rules, first_broken, fault, unused_of, hops_bad, vertex_bad, filler_bad, twice_bad, last_bad, owner_bad, rank_due, rank_bad, path_bad}
 use Rattle.laws.specs.TableLaws.{rule_broken, rule_kept, due_same, due_new, record_length}
