@@ -7,7 +7,8 @@ use Prim.Native.Nat.{ℕ, suc, ◌+◌, ◌-◌, ◌<◌, ◌≤◌}
 use Rattle.std.proofs.Math.ListN.{length, get_or}
 use Rattle.lists.specs.Tests.{by_equal, by_option}
 use Rattle.lists.specs.Search.{first_from}
-use Rattle.lists.specs.SearchLaws.{first_found, first_none, search_hit, search_next, search_end}
+use Rattle.lists.specs.SearchLaws.{search_next, search_end}
+use Rattle.lists.proofs.SearchLaws.{first_found, first_none, search_hit}
 use Rattle.lists.specs.Fill.{tabulate}
 use Rattle.lists.specs.FillLaws.{padded_at, tabulate_at, tabulate_ext}
 use Rattle.lists.specs.RangeLaws.{map_at}

@@ -25,8 +25,8 @@ use Rattle.step_entry.specs.StepCalled.{StepCalled}
 use Rattle.run_entry.specs.RunCalled.{RunCalled}
 use Rattle.theorems.specs.Claims.{Call, of_run, of_step, call_refusal, heard_after_call, rounds_of_call, AllAccepted, heard_after, pairs_of_call, pairs_of, rounds_answered, listening_pairs, Valid, row_of, Given, Stays}
 use Rattle.theorems.specs.LastingLaws.{after}
-use Rattle.theorems.specs.CallLaws.{all_after}
-use Rattle.theorems.specs.Settling.{settling, settling_heard, answered_contained}
+use Rattle.theorems.proofs.CallLaws.{all_after}
+use Rattle.theorems.proofs.Settling.{settling, settling_heard, answered_contained}
 
 -- A call as the collector saw it: what it lent, and what it found there afterwards.
 pub data Seen : Type 0 where

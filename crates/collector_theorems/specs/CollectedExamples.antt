@@ -19,9 +19,10 @@ use Rattle.laws.specs.AnswerLaws.{step_accepted}
 use Rattle.laws.specs.RunLaws.{no_pair, all_listen}
 use Rattle.laws.specs.RoundLaws.{rounds_contained}
 use Rattle.theorems.specs.Claims.{Call, of_step, call_refusal, heard_after_call, AllAccepted, heard_after, pairs_of_call, pairs_of, listening_pairs, Valid, Stays}
-use Rattle.theorems.specs.CallLaws.{all_valid}
+use Rattle.theorems.proofs.CallLaws.{all_valid}
 use Rattle.theorems.specs.Settling.{Settling}
-use Rattle.theorems.specs.SettlingExamples.{table7_bytes, leftover, slow_round, times, a_run, six_rounds, computed, fewer_hops_short, fewer_stages_short, some_pairs_short}
+use Rattle.theorems.specs.SettlingExamples.{table7_bytes, leftover, slow_round, times, a_run, six_rounds}
+use Rattle.theorems.proofs.SettlingExamples.{computed, fewer_hops_short, fewer_stages_short, some_pairs_short}
 use Rattle.collector_theorems.specs.Collected.{Seen, rounds_in, rounds_seen, pairs_sent, seen_of, seen_pairs, seen_left, heard_left, Collected, collectable, same_rows, same_hops, collected_contained}
 
 -- In every valid heard state the steps of a schedule without a bad pair are accepted, one after the other.

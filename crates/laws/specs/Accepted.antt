@@ -5,7 +5,7 @@ use Rattle.std.proofs.Common.{◌∙◌, arith}
 use Rattle.std.proofs.Math.Option.{none, some}
 use borrow.Author.Tests.{eqb-true, eqb-false, not-true, not-false}
 use Rattle.lists.specs.Tests.{by_equal, by_less, by_option, none≢some}
-use Rattle.lists.specs.SearchLaws.{first_none, first_found}
+use Rattle.lists.proofs.SearchLaws.{first_none, first_found}
 use Rattle.lists.specs.Search.{first_from}
 use Rattle.rules.specs.Table.{records}
 use Rattle.rules.specs.Refusals.{Refusal, refusal, fault, faulty, first_bad}

@@ -9,7 +9,7 @@ use Rattle.std.proofs.Math.Dec.{eqb}
 use borrow.Author.Tests.{eqb-true, eqb-false, eq-eqb, ltb-true, ltb-false}
 use Rattle.lists.specs.Search.{same}
 use Rattle.lists.specs.Fill.{tabulate}
-use Rattle.lists.specs.Tests.{by_test, inside}
+use Rattle.lists.specs.Tests.{by_test}
 use Rattle.lists.specs.SearchLaws.{none_below}
 use Rattle.lists.specs.ListLaws.{differs}
 use Rattle.lists.specs.FillLaws.{tabulate_at, tabulate_length}

@@ -1,5 +1,5 @@
 -- Each test of a record is exactly the plain rule with its number, and a record's fault is the number of the first rule
--- that it breaks.
+-- that it breaks; that it is so for every record stands in proofs/.
 use Rattle.std.specs.Prelude.{◌≡◌, ◌≢◌, true, false, not, length, drop, eqb, ltb}
 use Rattle.std.proofs.Math.Path.{refl, sym, ap}
 use Rattle.std.proofs.Common.{subst, ◌∙◌, arith, ext_get_or, eqb-true, eq-eqb, ltb-false, le-ltb}
@@ -12,9 +12,10 @@ use Rattle.std.proofs.lemmas.Bool.{not-false}
 use Rattle.lists.specs.Search.{any_in, outside, same}
 use Rattle.lists.specs.Tests.{by_test, by_equal, by_less, or_none, neither, inside, is_inside, true≢}
 use Rattle.lists.specs.SearchLaws.{all_fail, none_below}
-use Rattle.lists.specs.ListLaws.{none_at, some_at, differ, differs, twice_apart, apart_twice}
+use Rattle.lists.specs.ListLaws.{none_at, some_at, differ, differs}
+use Rattle.lists.proofs.ListLaws.{twice_apart, apart_twice}
 use Rattle.rules.specs.Table.{Path, records, record_at, rank_of, hops_of, path_of, owner_of, rank_at, hops_at, path_at, owner_at}
-use Rattle.rules.specs.Refusals.{Rule, rule, in_record, record_rules, first_broken, fault, unused_of, hops_bad, vertex_bad, filler_bad, twice_bad, last_bad, owner_bad, rank_due, rank_bad, path_bad}
+use Rattle.rules.specs.Refusals.{Rule, first_broken, unused_of, vertex_bad, filler_bad, twice_bad, last_bad, owner_bad, rank_due, rank_bad, path_bad}
 use Rattle.laws.specs.TableLaws.{rule_broken, rule_kept, due_same, due_new, record_length}
 use Rattle.laws.specs.Plain.{byte_at, rank_byte, hops_byte, vertex_byte, owner_byte, HopsRight, VerticesRight, UnusedRight, OnceEach, LastRight, OwnerRight, RankRight, SamePath, PathNew, Keeps}
 
@@ -58,7 +59,7 @@ cases n m here elsewhere = elim (eqb n m) [ true ↦ here | false ↦ elsewhere 
 
 module _ (t : List ℕ) (i : ℕ) where
   -- a number that is none of the page's for a record
-  keeps_other : (n : ℕ) → (4 ≤ n → n ≤ 11 → ⊥) → Keeps t i n
+  pub keeps_other : (n : ℕ) → (4 ≤ n → n ≤ 11 → ⊥) → Keeps t i n
   keeps_other n f =
       record {
         hops = λ e. absurd (f (omega arith) (omega arith));
@@ -72,13 +73,13 @@ module _ (t : List ℕ) (i : ℕ) where
       }
 
   -- what the rule with the page's number n says
-  abbrev Right : ℕ → Type 0
+  abbrev pub Right : ℕ → Type 0
   Right n =
       cases n 4 (HopsRight t i) (cases n 5 (VerticesRight t i) (cases n 6 (UnusedRight t i) (cases n 7 (OnceEach t i)
       (cases n 8 (LastRight t i) (cases n 9 (OwnerRight t i) (cases n 10 (RankRight t i) (PathNew t i)))))))
 
   -- a record that keeps the one rule with a number keeps all with that number
-  keeps_right : (n : ℕ) → Right n → Keeps t i n
+  pub keeps_right : (n : ℕ) → Right n → Keeps t i n
   keeps_right n h =
       record {
         hops = λ e. subst Right e h;
@@ -92,23 +93,13 @@ module _ (t : List ℕ) (i : ℕ) where
       }
 
 -- a test that fails exactly where record i keeps rule n
-record Says (t : List ℕ) (i n : ℕ) (test : Bool) : Type 0 where
-  keeps : test ≡ false → Keeps t i n
-  fails : Keeps t i n → test ≡ false
+pub record Says (t : List ℕ) (i n : ℕ) (test : Bool) : Type 0 where
+  pub keeps : test ≡ false → Keeps t i n
+  pub fails : Keeps t i n → test ≡ false
 
--- 4, 9 and 10 ask nothing
+-- 9 and 10 ask nothing
 
-module _ (t : List ℕ) (i : ℕ) where
-  says_4 : Says t i 4 (hops_bad (record_at t i))
-  unfolding hops_bad
-  says_4 =
-      record {
-        keeps = λ e. let x = inside 1 12 (hops_at t i) e in keeps_right t i 4 (omega (arith, hops_is t i));
-        fails = λ k. let h = k.hops refl in is_inside 1 12 (hops_at t i) (omega (arith, hops_is t i))
-            (omega (arith, hops_is t i));
-      }
-
-says_9 : (t : List ℕ) (i : ℕ) → Says t i 9 (owner_bad t i)
+pub says_9 : (t : List ℕ) (i : ℕ) → Says t i 9 (owner_bad t i)
 unfolding owner_bad
 says_9 t zero = record { keeps = λ e. keeps_right t 0 9 (λ j h. absurd (omega arith)); fails = λ k. refl }
 says_9 t (suc i) =
@@ -145,7 +136,7 @@ due_right t i h e =
       next = λ j s q. e ∙ ap (rank_due t) (sym s) ∙ due_next t j (q ∙ ap (owner_byte t) (sym s));
     }
 
-says_10 : (t : List ℕ) (i : ℕ) → Says t i 10 (rank_bad t i)
+pub says_10 : (t : List ℕ) (i : ℕ) → Says t i 10 (rank_bad t i)
 unfolding rank_bad
 says_10 t i =
     record {
@@ -174,7 +165,7 @@ module _ (t : List ℕ) (i : ℕ) (h : i < records t) (small : hops_byte t i ≤
   vertex : (k : ℕ) → k ≤ hops_byte t i → get_or (path_at t i) k 0 ≡ vertex_byte t i k
   vertex k l = vertex_is t i k l (omega arith)
 
-  says_5 : Says t i 5 (vertex_bad (record_at t i))
+  pub says_5 : Says t i 5 (vertex_bad (record_at t i))
   unfolding vertex_bad
   says_5 =
       record {
@@ -207,7 +198,7 @@ module _ (t : List ℕ) (i : ℕ) (h : i < records t) (small : hops_byte t i ≤
       let z : 3 + hops_byte t i + (k - (3 + hops_byte t i)) ≡ k = omega arith in
       unused_byte (k - (3 + hops_byte t i)) (omega arith) ∙ ap (byte_at t i) z
 
-  says_6 : Says t i 6 (filler_bad (record_at t i))
+  pub says_6 : Says t i 6 (filler_bad (record_at t i))
   unfolding filler_bad
   says_6 =
       let any = any_in (outside 255 255) (unused_of (record_at t i)) in
@@ -232,7 +223,7 @@ module _ (t : List ℕ) (i : ℕ) (h : i < records t) (small : hops_byte t i ≤
             (is_inside 0 0 end (omega arith) (omega (arith, u.end)));
       }
 
-  says_7 : Says t i 7 (twice_bad (record_at t i))
+  pub says_7 : Says t i 7 (twice_bad (record_at t i))
   unfolding twice_bad
   says_7 =
       record {
@@ -245,7 +236,7 @@ module _ (t : List ℕ) (i : ℕ) (h : i < records t) (small : hops_byte t i ≤
   last_is : get_or (record_at t i) (2 + hops_at t i) 0 ≡ vertex_byte t i (hops_byte t i)
   last_is = byte t i (2 + hops_at t i) (omega (arith, hops_is t i)) ∙ ap (vertex_byte t i) (hops_is t i)
 
-  says_8 : Says t i 8 (last_bad (record_at t i))
+  pub says_8 : Says t i 8 (last_bad (record_at t i))
   unfolding last_bad
   says_8 =
       let b = get_or (record_at t i) (2 + hops_at t i) 0 in
@@ -273,7 +264,7 @@ module _ (t : List ℕ) (i : ℕ) (h : i < records t) (small : hops_byte t i ≤
         (λ k m. let n : k ≤ hops_byte t i = omega (arith, path_most t j l, s.hops) in
         vertex_is t j k (omega (arith, s.hops)) (omega arith) ∙ s.vertices k n ∙ sym (vertex k n))
 
-  says_11 : Says t i 11 (path_bad t i)
+  pub says_11 : Says t i 11 (path_bad t i)
   unfolding path_bad
   says_11 =
       let test : ℕ → Bool = λ j. same (path_at t j) (path_at t i) in
@@ -292,7 +283,7 @@ module _ (t : List ℕ) (i : ℕ) where
   KeptTo m = (j : ℕ) → j < m → Keeps t i j
 
   -- the rules from number m to 11, each of which says what it should where those before it are kept
-  abbrev Chain : ℕ → List Rule → Type 0
+  abbrev pub Chain : ℕ → List Rule → Type 0
   Chain m [] = m ≡ 12
   Chain m (r ∷ rs) = (r.number ≡ m) × (KeptTo m → Says t i m (r.broken t i)) × Chain (suc m) rs
 
@@ -304,7 +295,7 @@ module _ (t : List ℕ) (i : ℕ) where
   kept_more : (m : ℕ) → KeptTo m → Keeps t i m → KeptTo (suc m)
   kept_more m f k j h = by_equal j m (λ e. rw e k) (λ e. f j (omega arith))
 
-  walk : (rs : List Rule) (m : ℕ) → 4 ≤ m → Chain m rs → KeptTo m → Walk (first_broken rs t i)
+  pub walk : (rs : List Rule) (m : ℕ) → 4 ≤ m → Chain m rs → KeptTo m → Walk (first_broken rs t i)
   unfolding first_broken
   walk [] m h c f =
       clean refl (λ n. by_less n 12 (λ l. f n (omega arith)) (λ l. keeps_other t i n (omega arith)))
@@ -312,39 +303,3 @@ module _ (t : List ℕ) (i : ℕ) where
       by_test (r.broken t i)
       (λ q. rw (rule_broken t i r rs q, e) (stops (omega arith) f (λ k. true≢ q ((s f).fails k))))
       (λ q. rw (rule_kept t i r rs q) (walk rs (suc m) (omega arith) c (kept_more m f ((s f).keeps q))))
-
-  module _ (h : i < records t) where
-    pub fault_walk : Walk (fault t i)
-    unfolding fault record_rules rule in_record
-    fault_walk =
-        let small : (m : ℕ) → 4 < m → KeptTo m → hops_byte t i ≤ 12 = λ m l f. ((f 4 l).hops refl).1 in
-        walk record_rules 4 (omega arith) (
-          refl,
-          λ f. says_4 t i,
-          (
-            refl,
-            λ f. says_5 t i h (small 5 (omega arith) f),
-            (
-              refl,
-              λ f. says_6 t i h (small 6 (omega arith) f),
-              (
-                refl,
-                λ f. says_7 t i h (small 7 (omega arith) f),
-                (
-                  refl,
-                  λ f. says_8 t i h (small 8 (omega arith) f),
-                  (
-                    refl,
-                    λ f. says_9 t i,
-                    (
-                      refl,
-                      λ f. says_10 t i,
-                      (refl, λ f. says_11 t i h (small 11 (omega arith) f), refl),
-                    ),
-                  ),
-                ),
-              ),
-            ),
-          ),
-        )
-        (λ j l. keeps_other t i j (omega arith))

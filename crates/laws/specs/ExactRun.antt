@@ -1,5 +1,5 @@
 -- Exactness of the run's numbers: the last change is exactly the greatest step that changed a choice, and the ups and
--- downs are exactly the steps after which their listener stands higher and lower.
+-- downs are exactly the steps after which their listener stands higher and lower. proofs/ has the theorem.
 use Rattle.std.specs.Prelude.{◌≡◌, ◌≢◌, ◌↔◌, Bool, true, false, length, get_or, take, pos, ◌-ℤ◌, ltb}
 use Rattle.std.proofs.Math.Path.{refl, ap}
 use Rattle.std.proofs.Common.{sym, ◌∙◌, add-one, length-take, take_all, lt-ltb, le-ltb}
@@ -58,7 +58,7 @@ module _ (paths : ℕ → List Path) (heard : List ℕ) (s : List Pair) where
 
 -- a difference is above 0 exactly where the second number is the greater, and below 0 where it is the smaller
 
-difference_up : (a b : ℕ) → is_up (pos b -ℤ pos a) ≡ ltb a b
+pub difference_up : (a b : ℕ) → is_up (pos b -ℤ pos a) ≡ ltb a b
 unfolding is_up
 difference_up a b =
     by_less a b (λ h. ap is_up (difference_above b a h) ∙ sym (lt-ltb a b h))
@@ -73,7 +73,7 @@ difference_down a b =
     (λ l. let e : b ≡ a = omega arith in rw e (ap is_down (+ℤ_invr (pos a)) ∙ sym (le-ltb a a (omega arith)))))
 
 -- one more where the test holds, as a count goes
-more_count : (test : ℕ → Bool) (b : Bool) (n y : ℕ)
+pub more_count : (test : ℕ → Bool) (b : Bool) (n y : ℕ)
     → b ≡ test n
     → y ≡ count_below test n
     → more b y ≡ count_below test (suc n)
@@ -86,16 +86,16 @@ abbrev latest : Bool → ℕ → ℕ → ℕ
 latest kept old now = elim kept [ true ↦ old | false ↦ now ]
 
 module _ (paths : ℕ → List Path) (heard : List ℕ) (s : List Pair) where
-  abbrev tally_after : ℕ → Tally
+  abbrev pub tally_after : ℕ → Tally
   tally_after k = run paths heard (take k s)
 
   -- nothing yet
-  tally_none : tally_after 0 ≡ begun heard
+  pub tally_none : tally_after 0 ≡ begun heard
   unfolding run fold_left
   tally_none = refl
 
   -- one pair more
-  tally_next : (k : ℕ)
+  pub tally_next : (k : ℕ)
       → k < length s
       → tally_after (suc k) ≡ activated paths (listening_offsets paths) (tally_after k) (get_or s k no_pair)
   unfolding run
@@ -104,11 +104,11 @@ module _ (paths : ℕ → List Path) (heard : List ℕ) (s : List Pair) where
       ap (λ (n : ℕ). run paths heard (take n s)) (sym (add-one k)) ∙ fold_more (activated paths pairs)
       (begun heard) s k no_pair h
 
-  state_none : state_after paths heard s 0 ≡ heard
+  pub state_none : state_after paths heard s 0 ≡ heard
   unfolding begun
   state_none = ap (λ (y : Tally). y.heard) tally_none
 
-  state_next : (k : ℕ)
+  pub state_next : (k : ℕ)
       → k < length s
       → state_after paths heard s (suc k) ≡ step paths (state_after paths heard s k) (get_or s k no_pair)
   unfolding activated
@@ -117,16 +117,7 @@ module _ (paths : ℕ → List Path) (heard : List ℕ) (s : List Pair) where
   steps_after : (k : ℕ) → k ≤ length s → (tally_after k).steps ≡ k
   steps_after k h = run_steps paths heard (take k s) ∙ length-take k s ∙ omega arith
 
-  -- its movement goes up or down as its listener's standing does
-  pub up_is : (k : ℕ)
-      → k < length s
-      → is_up (movement paths (state_after paths heard s k) (get_or s k no_pair)) ≡ rises paths heard s k
-  unfolding movement
-  up_is k h =
-      let v = listener_at paths heard s k in
-      let now = state_after paths heard s k in
-      rw (state_next k h) (difference_up (standing paths now v) (standing paths (step paths now (get_or s k no_pair)) v))
-
+  -- its movement goes down as its listener's standing does
   pub down_is : (k : ℕ)
       → k < length s
       → is_down (movement paths (state_after paths heard s k) (get_or s k no_pair)) ≡ falls paths heard s k
@@ -136,14 +127,7 @@ module _ (paths : ℕ → List Path) (heard : List ℕ) (s : List Pair) where
       let now = state_after paths heard s k in
       rw (state_next k h) (difference_down (standing paths now v) (standing paths (step paths now (get_or s k no_pair)) v))
 
-  ups_after : (k : ℕ) → k ≤ length s → (tally_after k).ups ≡ count_below (rises paths heard s) k
-  unfolding count_below begun activated
-  ups_after zero h = ap (λ (y : Tally). y.ups) tally_none
-  ups_after (suc k) h =
-      ap (λ (y : Tally). y.ups) (tally_next k h)
-      ∙ more_count (rises paths heard s) _ k (tally_after k).ups (up_is k h) (ups_after k (omega arith))
-
-  downs_after : (k : ℕ) → k ≤ length s → (tally_after k).downs ≡ count_below (falls paths heard s) k
+  pub downs_after : (k : ℕ) → k ≤ length s → (tally_after k).downs ≡ count_below (falls paths heard s) k
   unfolding count_below begun activated
   downs_after zero h = ap (λ (y : Tally). y.downs) tally_none
   downs_after (suc k) h =
@@ -151,7 +135,7 @@ module _ (paths : ℕ → List Path) (heard : List ℕ) (s : List Pair) where
       ∙ more_count (falls paths heard s) _ k (tally_after k).downs (down_is k h) (downs_after k (omega arith))
 
   -- the last change after k pairs: none so far, or the greatest of those so far
-  data Last (k : ℕ) : Type 0 where
+  pub data Last (k : ℕ) : Type 0 where
     never : (tally_after k).last_change ≡ 0 → ((j : ℕ) → j ≤ k → Changes paths heard s j → ⊥) → Last k
     lately : (n : ℕ)
         → (tally_after k).last_change ≡ n
@@ -198,46 +182,10 @@ module _ (paths : ℕ → List Path) (heard : List ℕ) (s : List Pair) where
             lately n (change_next ∙ rw q e) c
             (λ j a b d. by_equal j (suc k) (λ z. kept_same q (rw z at d)) (λ z. f j a (omega arith) d))
 
-  last_after : (k : ℕ) → k ≤ length s → Last k
+  pub last_after : (k : ℕ) → k ≤ length s → Last k
   unfolding begun
   last_after zero h = never (ap (λ (y : Tally). y.last_change) tally_none) (λ j a c. omega (arith, c.from))
   last_after (suc k) h = last_next k h (last_after k (omega arith))
 
-  whole : tally_after (length s) ≡ run paths heard s
+  pub whole : tally_after (length s) ≡ run paths heard s
   whole = ap (run paths heard) (take_all (length s) s (omega arith))
-
--- The theorem: it holds of every run.
-pub exact_run : (paths : ℕ → List Path) (heard : List ℕ) (s : List Pair) → ExactRun paths heard s
-exact_run paths heard s = go (last_after paths heard s (length s) (omega arith))
-  where
-    all : (tally_after paths heard s (length s)).last_change ≡ (run paths heard s).last_change
-    all = ap (λ (y : Tally). y.last_change) (whole paths heard s)
-
-    counted : ((k : ℕ) → 1 ≤ k → ((run paths heard s).last_change ≡ k) ↔ Greatest (Changes paths heard s) k)
-        → ((run paths heard s).last_change ≡ 0) ↔ ((k : ℕ) → Changes paths heard s k → ⊥)
-        → ExactRun paths heard s
-    counted f g =
-        record {
-          steps = run_steps paths heard s;
-          starts = state_none paths heard s;
-          goes = state_next paths heard s;
-          ends = ap (λ (y : Tally). y.heard) (sym (whole paths heard s));
-          changed = f;
-          unchanged = g;
-          ups = ap (λ (y : Tally). y.ups) (sym (whole paths heard s)) ∙ ups_after paths heard s (length s) (omega arith);
-          downs = ap (λ (y : Tally). y.downs) (sym (whole paths heard s)) ∙ downs_after paths heard s (length s) (omega arith);
-        }
-
-    go : Last paths heard s (length s) → ExactRun paths heard s
-    go (never e f) =
-        let none : (k : ℕ) → Changes paths heard s k → ⊥ = λ k c. f k c.within c in
-        counted (λ k h. (λ q. absurd (omega (arith, e, all)), λ g. absurd (none k g.holds))) (λ q. none, λ n. sym all ∙ e)
-    go (lately n e c f) =
-        let last : (run paths heard s).last_change ≡ n = sym all ∙ e in
-        counted
-        (λ k h. (
-          λ q. let z : n ≡ k = sym last ∙ q in rw (← z) (record { holds = c; greatest = λ j a d. f j a d.within d }),
-          λ g. by_less n k (λ a. absurd (f k a g.holds.within g.holds))
-              (λ a. by_less k n (λ b. absurd (g.greatest n b c)) (λ b. omega arith)),
-        ))
-        (λ q. absurd (omega (arith, c.from)), λ m. absurd (m n c))

@@ -12,7 +12,8 @@ use native.Mathlib.Omega.{arith}
 use Rattle.std.proofs.Math.ListN.{get_or-eq_default}
 use Rattle.std.proofs.lemmas.Bool.{not-true, not-false}
 use Rattle.lists.specs.Search.{any_below, count_below, first_from, same}
-use Rattle.lists.specs.SearchLaws.{Found, first_found, finds_passing, none_below, some_below, count_most, count_less}
+use Rattle.lists.specs.SearchLaws.{Found, none_below, some_below, count_most, count_less}
+use Rattle.lists.proofs.SearchLaws.{first_found, finds_passing}
 use Rattle.lists.specs.Tests.{by_test, by_equal, by_less, by_option, true≢, none≢some, and_parts, both}
 use Rattle.lists.specs.Fill.{tabulate}
 use Rattle.lists.specs.FillLaws.{tabulate_length, tabulate_at}

@@ -15,7 +15,8 @@ use Rattle.lists.specs.FillLaws.{blocks_ext}
 use Rattle.lists.specs.RangeLaws.{those_ext, those_blocks}
 use Rattle.lists.specs.Tests.{by_test, by_equal, by_less, or_none}
 use Rattle.lists.specs.NumberLaws.{difference_most, told_apart, told_first, told_second}
-use Rattle.lists.specs.ListLaws.{first_in_none, all_fail_in, some_at, twice_apart}
+use Rattle.lists.specs.ListLaws.{first_in_none, all_fail_in, some_at}
+use Rattle.lists.proofs.ListLaws.{twice_apart}
 use Rattle.rules.specs.Table.{Path, next_hop, rest, leads_to, listens, listens_at}
 use Rattle.rules.specs.Stable.{extends, best_given}
 use Rattle.rules.specs.Report.{rank_in}

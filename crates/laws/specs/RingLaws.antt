@@ -9,8 +9,9 @@ use Prim.Native.Nat.{ℕ, zero, suc, pred, ◌+◌, ◌-◌, ◌<◌, ◌≤◌}
 use native.Mathlib.Omega.{arith}
 use Rattle.std.proofs.lemmas.Bool.{not-true}
 use Rattle.lists.specs.Search.{elem, first_from, twice}
-use Rattle.lists.specs.SearchLaws.{Found, first_found, first_none, finds_passing, pigeonhole}
-use Rattle.lists.specs.ListLaws.{twice_apart, apart_twice}
+use Rattle.lists.specs.SearchLaws.{Found, pigeonhole}
+use Rattle.lists.proofs.SearchLaws.{first_found, first_none, finds_passing}
+use Rattle.lists.proofs.ListLaws.{twice_apart, apart_twice}
 use Rattle.lists.specs.Tests.{by_test, by_equal, by_less, by_option, true≢, none≢some, and_parts, both, impossible}
 use Rattle.lists.specs.Fill.{tabulate}
 use Rattle.lists.specs.FillLaws.{tabulate_length, tabulate_at, tabulate_ext, tabulate_add, tabulate_take, tabulate_drop, tabulate_elem, tabulate_place}

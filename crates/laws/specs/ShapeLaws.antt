@@ -12,7 +12,8 @@ use borrow.Author.Tests.{eqb-true, eqb-false}
 use Rattle.lists.specs.Search.{any_below, any_in, elem, outside}
 use Rattle.lists.specs.Tests.{by_test, inside, or_cases, or_none, or_right}
 use Rattle.lists.specs.SearchLaws.{any_below_lem, some_below, max_bounds, max_most}
-use Rattle.lists.specs.ListLaws.{none_at, elem_at, elem_place, twice_apart}
+use Rattle.lists.specs.ListLaws.{none_at, elem_at, elem_place}
+use Rattle.lists.proofs.ListLaws.{twice_apart}
 use Rattle.rules.specs.Table.{records, record_at, hops_at, path_at, owner_at, rank_of, hops_of, path_of, paths_of, present, longest}
 use Rattle.rules.specs.Refusals.{refusal, hops_bad, vertex_bad, unused_of, filler_bad, twice_bad, last_bad}
 use Rattle.laws.specs.Shape.{Permitted, Shaped}

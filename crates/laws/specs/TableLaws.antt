@@ -12,7 +12,8 @@ use Rattle.std.proofs.Math.Dec.{ltb}
 use borrow.Author.Tests.{eqb-true, eq-eqb, ne_eqb, ltb-false, lt-ltb, le-ltb, not-false}
 use Rattle.lists.specs.Search.{any_below, any_in, first_from, outside, same}
 use Rattle.lists.specs.Tests.{by_test, by_equal, or_none, or_left, inside, is_inside, above_out, neither}
-use Rattle.lists.specs.SearchLaws.{first_hit, first_miss, first_end, all_fail, any_below_lem, any_below_suc}
+use Rattle.lists.specs.SearchLaws.{first_miss, first_end, all_fail, any_below_lem, any_below_suc}
+use Rattle.lists.proofs.SearchLaws.{first_hit}
 use Rattle.lists.specs.ListLaws.{differ}
 use Rattle.lists.specs.Parts.{part_clipped}
 use Rattle.rules.specs.Table.{Path, records, record_at, hops_of, path_of, owner_of, rank_at, hops_at, path_at, owner_at}

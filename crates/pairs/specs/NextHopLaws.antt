@@ -12,7 +12,8 @@ use Rattle.std.proofs.lemmas.List.{length-map}
 use borrow.Author.Tests.{eq-eqb, ne_eqb, lt-ltb, le-ltb, eqb-true, ltb-true}
 use Rattle.lists.specs.Tests.{true≢, by_test, by_equal, by_less, by_option, and_parts}
 use Rattle.lists.specs.Search.{first_from, count_below}
-use Rattle.lists.specs.SearchLaws.{Found, first_hit, first_miss, first_end, first_found, first_none, search_hit, search_end, count_in, count_out, count_ext, count_most, count_one}
+use Rattle.lists.specs.SearchLaws.{Found, first_miss, first_end, search_end, count_in, count_out, count_ext, count_most, count_one}
+use Rattle.lists.proofs.SearchLaws.{first_hit, first_found, first_none, search_hit}
 use Rattle.lists.specs.ListLaws.{get_or_within, any_at, some_at}
 use Rattle.lists.specs.NumberLaws.{told_first, told_second}
 use Rattle.lists.specs.Fill.{tabulate}

@@ -5,7 +5,7 @@ use Rattle.std.proofs.Common.{◌∙◌, arith}
 use mathlib.Core.List.{List, [], ◌∷◌, ◌++◌}
 use Prim.Native.Nat.{ℕ, zero, suc, ◌<◌}
 use Rattle.lists.specs.Search.{elem, first_from}
-use Rattle.lists.specs.SearchLaws.{first_found}
+use Rattle.lists.proofs.SearchLaws.{first_found}
 use Rattle.lists.specs.Tests.{by_test, by_option, true≢}
 use Rattle.rules.specs.Greedy.{closed_part, turned, ring_from}
 

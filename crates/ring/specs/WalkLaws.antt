@@ -8,7 +8,8 @@ use native.Mathlib.Omega.{arith}
 use Rattle.std.proofs.Math.Numerals.{add-one}
 use Rattle.std.proofs.Math.ListN.{take, drop, length-set}
 use Rattle.lists.specs.Search.{elem, first_from}
-use Rattle.lists.specs.SearchLaws.{first_found, finds_passing, search_hit, search_next, search_end}
+use Rattle.lists.specs.SearchLaws.{search_next, search_end}
+use Rattle.lists.proofs.SearchLaws.{first_found, finds_passing, search_hit}
 use Rattle.lists.specs.Tests.{by_test, by_equal, by_less, by_option, true≢}
 use Rattle.lists.specs.Parts.{part_to_end, rest_of_first}
 use Rattle.lists.specs.Fill.{padded}

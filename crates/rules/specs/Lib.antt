@@ -11,7 +11,7 @@ pub mod Answers
 pub mod Text
 pub mod RunText
 pub mod Entries
--- The worked examples: what is tried, the lists, and all of them in one statement.
+-- The worked examples: what is tried, the lists, and all of them as one list. proofs/ has the statements that they work.
 pub mod TriedExamples
 pub mod RefusalExamples
 pub mod CheckExamples

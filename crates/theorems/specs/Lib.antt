@@ -1,9 +1,7 @@
--- The theorems, over a table's bytes, with what they speak of first and examples last.
+-- The theorems, over a table's bytes, with what they speak of first and examples last; what rests on one another is in proofs/.
 pub mod Claims
 pub mod Settling
 pub mod StableAssignments
-pub mod RestingPoints
-pub mod FinalState
 pub mod SettlingExamples
 -- The published examples of paper 001.
 pub mod Published
@@ -12,7 +10,6 @@ pub mod PublishedExamples
 pub mod RowLaws
 pub mod CallLaws
 pub mod SettledLaws
-pub mod StoringLaws
 pub mod PublishedLaws
 -- .. and over paths, each file on the ones before it.
 pub mod EnteringLaws

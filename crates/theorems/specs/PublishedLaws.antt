@@ -1,7 +1,7 @@
 -- Laws for the published examples: whether an assignment is stable is a test, all stable assignments are found by
 -- trying every list of paths, a heard state that no step at a pair of vertices changes is one in which the machine
 -- rests, and two pairs that hear each other cannot both hold what the other does not choose.
-use Prim.Native.Nat.{ℕ, zero, suc, pred, ◌<◌, ◌≤◌, ◌+◌, ◌*◌}
+use Prim.Native.Nat.{ℕ, zero, suc, ◌<◌, ◌≤◌, ◌+◌, ◌*◌}
 use Rattle.std.specs.Prelude.{◌≡◌, refl, ◌≢◌, ◌⊎◌, Bool, true, false, ◌&&◌, ◌||◌, length, eqb, ltb}
 use Rattle.std.proofs.Math.Path.{sym, ap, subst}
 use Rattle.std.proofs.Common.{◌∙◌, ⊎_elim, eqb-true, lt-ltb}
@@ -31,7 +31,6 @@ use Rattle.laws.specs.AnswerLaws.{step_admitted}
 use Rattle.theorems.specs.Claims.{Valid, Rests, stored_byte, storing}
 use Rattle.theorems.specs.LastingLaws.{Vertices, InRange, after}
 use Rattle.theorems.specs.EnteringLaws.{next_listens}
-use Rattle.theorems.specs.RestingPoints.{stable_rests}
 use Rattle.theorems.specs.Published.{assigned, routers_paths, pair_at, changes_at, some_step_changes}
 
 -- An accepted table whose routers are 1 to n.
@@ -97,7 +96,7 @@ Only t n named = every_draw (paths_of t) n (λ ps. unstable t n (assigned ps) ||
 
 module _ (t : List ℕ) (n : ℕ) (routers : Routers t n) where
   -- a present vertex is at most n, and 1 to n are present
-  present_most : (v : ℕ) → present t v ≡ true → v ≤ n
+  pub present_most : (v : ℕ) → present t v ≡ true → v ≤ n
   present_most v e =
       by_less n v
       (λ h. absurd (true≢ (both (present t v) (ltb n v) e (lt-ltb n v h))
@@ -107,24 +106,7 @@ module _ (t : List ℕ) (n : ℕ) (routers : Routers t n) where
   router_present : (k : ℕ) → k < n → present t (suc k) ≡ true
   router_present k h = not-false _ (none_below (λ j. not (present t (suc j))) n routers.all k h)
 
-  -- an assignment that passes the test is stable, and the state that stores it rests ..
-  pub tested_stable : (ps : List Path) → unstable t n (assigned ps) ≡ false → StableState t ps
-  unfolding unstable assigned
-  tested_stable ps e =
-      let a = assigned ps in
-      let tested : (k : ℕ) → k < n → a (suc k) ≡ best_given (paths_of t) a (suc k) =
-      λ k h. same_eq _ _ (not-false _ (none_below (λ j. not (same (a (suc j)) (best_given (paths_of t) a (suc j)))) n e k h))
-      in
-      let stable : Stable (paths_of t) (present t) a =
-      record {
-        destination = refl;
-        others = λ v z here. let s : suc (pred v) ≡ v = omega arith in
-            subst (λ w. a w ≡ best_given (paths_of t) a w) s (tested (pred v) (omega (arith, present_most v here)));
-      }
-      in
-      record { stable = stable; rests = stable_rests t routers.accepted a stable }
-
-  -- .. and the paths of a stable assignment pass it
+  -- the paths of a stable assignment pass the test; that what passes it is stable stands in proofs/
 
   module _ (a : ℕ → Path) (stable : Stable (paths_of t) (present t) a) where
     routers_same : (v : ℕ) → v ≤ n → assigned (routers_paths n a) v ≡ a v

@@ -5,16 +5,16 @@ use Rattle.std.proofs.Common.{◌∙◌, ⊎_elim, arith}
 use mathlib.Core.List.{List, [], ◌∷◌}
 use Rattle.std.proofs.Math.Option.{none, some}
 use Rattle.std.proofs.Math.ListN.{get_or}
-use Rattle.lists.specs.Tests.{by_test, by_equal, by_option}
+use Rattle.lists.specs.Tests.{by_equal}
 use Rattle.rules.specs.Table.{Path, paths_of, present}
 use Rattle.rules.specs.Greedy.{settled, stage_of, stage_count}
 use Rattle.rules.specs.Report.{rank_in, row_bytes, row, path_shown}
 use Rattle.rules.specs.Refusals.{refusal}
 use Rattle.laws.specs.ShapeLaws.{shaped}
-use Rattle.laws.specs.GreedyLaws.{settled_present, settled_permitted, origin_path, stage_settles}
+use Rattle.laws.specs.GreedyLaws.{settled_present, settled_permitted, origin_path}
 use Rattle.laws.specs.ReportLaws.{row_part, vertices_padded}
 use Rattle.laws.specs.RingLaws.{final}
-use Rattle.theorems.specs.Claims.{row_of, SettledAt, AsReported}
+use Rattle.theorems.specs.Claims.{row_of, AsReported}
 
 -- the path (0) can be read back from a row
 origin_small : (k : ℕ) → k < length {A = ℕ} (0 ∷ []) → get_or {A = ℕ} (0 ∷ []) k 0 < 64
@@ -23,7 +23,7 @@ origin_small (suc k) h = absurd (omega arith)
 
 module _ (t : List ℕ) (accepted : refusal t ≡ none) (v : ℕ) where
   -- a settled vertex's row holds its stage, its rank and its path
-  row_settled : (p : Path)
+  pub row_settled : (p : Path)
       → v < 64
       → final (paths_of t) (present t) v ≡ some p
       → row_of t v ≡ row_bytes (stage_of (paths_of t) (present t) v) (rank_in (paths_of t) v p) p
@@ -54,20 +54,3 @@ module _ (t : List ℕ) (accepted : refusal t ≡ none) (v : ℕ) where
         hops = sym (ap (λ (x : List ℕ). get_or x 2 0) r);
         path = sym (ap path_shown r ∙ vertices_padded p f.0 f.1);
       }
-
-  -- and a vertex whose row says stage k was settled after k stages with what its row reports
-  pub row_tells : (k : ℕ)
-      → SettledAt t v k
-      → (p : Path) × ((settled (paths_of t) (present t) k v ≡ some p) × AsReported t v p)
-  unfolding row row_bytes
-  row_tells k s =
-      let part = row_part t v s.vertex in
-      by_option (final (paths_of t) (present t) v)
-      (λ e. absurd (by_test (present t v)
-      (λ q. let mark : get_or (row_of t v) 0 0 ≡ 255 = ap (λ (x : List ℕ). get_or x 0 0) part ∙ rw (q, e, row) in
-      omega (arith, s.stage, s.is_stage))
-      (λ q. let mark : get_or (row_of t v) 0 0 ≡ 254 = ap (λ (x : List ℕ). get_or x 0 0) part ∙ rw (q, row) in
-      omega (arith, s.stage, s.is_stage))))
-      (λ p e. let same : stage_of (paths_of t) (present t) v ≡ k = sym
-      (ap (λ (x : List ℕ). get_or x 0 0) (row_settled p s.vertex e)) ∙ s.stage in
-      (p, (rw same at (stage_settles (paths_of t) (present t) v p e), reported p s.vertex e)))

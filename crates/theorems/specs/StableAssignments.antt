@@ -1,7 +1,7 @@
--- Demand 3, its last sentence: every stable assignment agrees with the report on settled routers; a complete report is
--- itself the only one.
+-- Demand 3, its last sentence: a complete report is itself the only stable assignment. proofs/ has that every stable
+-- assignment agrees with the report on settled routers.
 use Rattle.std.specs.Prelude.{ℕ, zero, suc, ◌≡◌, refl, ◌≢◌, List}
-use Rattle.std.proofs.Common.{sym, ◌∙◌, subst, arith}
+use Rattle.std.proofs.Common.{sym, ◌∙◌, arith}
 use Rattle.std.proofs.Math.Bool.{true}
 use Rattle.std.proofs.Math.Option.{none, some}
 use Rattle.lists.specs.Tests.{by_option, impossible}
@@ -15,8 +15,8 @@ use Rattle.laws.specs.ShapeLaws.{shaped}
 use Rattle.laws.specs.GreedyLaws.{settled_range}
 use Rattle.laws.specs.RingLaws.{final, is_stuck}
 use Rattle.laws.specs.ReportLaws.{report_ring}
-use Rattle.theorems.specs.Claims.{row_of, SettledAt, AsReported}
-use Rattle.theorems.specs.RowLaws.{reported, row_tells}
+use Rattle.theorems.specs.Claims.{row_of}
+use Rattle.theorems.specs.RowLaws.{reported}
 use Rattle.theorems.specs.AgreementLaws.{stable_agrees, settled_stable}
 
 -- The paths that the rows report.
@@ -30,36 +30,28 @@ complete_empty zero e = refl
 complete_empty (suc n) e = impossible cc
 
 module _ (t : List ℕ) (accepted : refusal t ≡ none) where
-  -- Every stable assignment gives a router whose row says a stage what its row reports: that path, or none.
-  pub stable_reported : (assigned : ℕ → Path)
-      → Stable (paths_of t) (present t) assigned
-      → (v k : ℕ)
-      → SettledAt t v k
-      → AsReported t v (assigned v)
-  stable_reported assigned stable v k row =
-      let told = row_tells t accepted v k row in
-      subst (AsReported t v) (sym (stable_agrees (paths_of t) (present t) (shaped t accepted) assigned stable k v
-      told.0 told.1.0)) told.1.1
-
   -- the rows report what is settled in the end
   pub reported_settled : (v : ℕ) (p : Path) → final (paths_of t) (present t) v ≡ some p → reported_paths t v ≡ p
   reported_settled v p e =
       sym
       (reported t accepted v p (settled_range (paths_of t) (present t) (stage_count (paths_of t) (present t)) v p e) e).path
 
-  module _ (done : verdict_of (report t).ring_length ≡ complete) where
-    -- where the verdict is complete, nobody is stuck
-    pub none_stuck : (v : ℕ) → present t v ≡ true → final (paths_of t) (present t) v ≢ none
-    unfolding stuck_in is_settled
-    none_stuck v here waits =
-        let stuck : is_stuck (paths_of t) (present t) v ≡ true = rw (here, waits, is_settled) in
-        omega (arith, report_ring t (shaped t accepted) v stuck, complete_empty (report t).ring_length done)
+  -- where the verdict is complete, nobody is stuck
+  pub none_stuck : verdict_of (report t).ring_length ≡ complete
+      → (v : ℕ)
+      → present t v ≡ true
+      → final (paths_of t) (present t) v ≢ none
+  unfolding stuck_in is_settled
+  none_stuck done v here waits =
+      let stuck : is_stuck (paths_of t) (present t) v ≡ true = rw (here, waits, is_settled) in
+      omega (arith, report_ring t (shaped t accepted) v stuck, complete_empty (report t).ring_length done)
 
+  module _ (done : verdict_of (report t).ring_length ≡ complete) where
     -- Where the verdict is complete, the report is a stable assignment ..
     pub complete_stable : Stable (paths_of t) (present t) (reported_paths t)
     complete_stable =
         settled_stable (paths_of t) (present t) (shaped t accepted) (reported_paths t)
-        (stage_count (paths_of t) (present t)) reported_settled none_stuck
+        (stage_count (paths_of t) (present t)) reported_settled (none_stuck done)
 
     -- .. and the only one: every stable assignment gives each present router the path that its row reports.
     pub complete_only : (assigned : ℕ → Path)
@@ -69,7 +61,7 @@ module _ (t : List ℕ) (accepted : refusal t ≡ none) where
         → assigned v ≡ reported_paths t v
     complete_only assigned stable v here =
         by_option (final (paths_of t) (present t) v)
-        (λ w. absurd (none_stuck v here w))
+        (λ w. absurd (none_stuck done v here w))
         (λ p e. stable_agrees (paths_of t) (present t) (shaped t accepted) assigned stable
         (stage_count (paths_of t) (present t)) v p e
         ∙ sym (reported_settled v p e))

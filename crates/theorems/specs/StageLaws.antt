@@ -9,11 +9,10 @@ use mathlib.Core.List.{List, [], ◌∷◌}
 use Rattle.std.proofs.Math.Option.{none, some}
 use Rattle.std.proofs.Math.ListN.{length, get_or}
 use Rattle.std.proofs.Math.Dec.{eqb}
-use Rattle.lists.specs.Search.{same}
 use Rattle.lists.specs.Tests.{true≢, by_equal, by_option}
 use Rattle.lists.specs.ListLaws.{differ, some_at}
 use Rattle.lists.specs.FoldLaws.{fold_append}
-use Rattle.rules.specs.Table.{Path, next_hop, rest, first, listens}
+use Rattle.rules.specs.Table.{Path, next_hop, rest, listens}
 use Rattle.rules.specs.Greedy.{Settled, compatible, best, judged, settled}
 use Rattle.rules.specs.Stable.{extends, best_given}
 use Rattle.rules.specs.Machine.{Pair, byte_for, last_heard, choice, step}

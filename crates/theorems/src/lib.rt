@@ -1,1 +1,3 @@
+#![tactic(auto)]
+
 // What the rules' definitions promise, as theorems over a table's bytes: see specs/.

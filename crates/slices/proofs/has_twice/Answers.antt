@@ -3,7 +3,8 @@
 use mathlib.Core.Path.{refl, sym, ◌∙◌}
 use native.Mathlib.Omega.{arith}
 use Rattle.lists.specs.Search.{twice}
-use Rattle.lists.specs.ListLaws.{met_again, met_new, met_all}
+use Rattle.lists.specs.ListLaws.{met_all}
+use Rattle.lists.proofs.ListLaws.{met_again, met_new}
 use Rattle.lists.specs.FillLaws.{met_none, met_mark, met_look}
 use Rattle.slices.proofs.has_twice.Goals as goal
 

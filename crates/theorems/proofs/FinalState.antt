@@ -17,11 +17,11 @@ use Rattle.laws.specs.MachineLaws.{speaker_present}
 use Rattle.laws.specs.RingLaws.{final}
 use Rattle.theorems.specs.Claims.{Call, AllAccepted, heard_after, pairs_of, listening_pairs, Valid, Rests, storing}
 use Rattle.theorems.specs.LastingLaws.{lasting_now}
-use Rattle.theorems.specs.CallLaws.{all_valid}
-use Rattle.theorems.specs.SettledLaws.{calls_heard}
-use Rattle.theorems.specs.StoringLaws.{holding_stored}
+use Rattle.theorems.proofs.CallLaws.{all_valid}
+use Rattle.theorems.proofs.SettledLaws.{calls_heard}
+use Rattle.theorems.proofs.StoringLaws.{holding_stored}
 use Rattle.theorems.specs.StableAssignments.{reported_paths, none_stuck, reported_settled, complete_stable}
-use Rattle.theorems.specs.RestingPoints.{stable_rests}
+use Rattle.theorems.proofs.RestingPoints.{stable_rests}
 
 module _ (t : List ℕ) (accepted : refusal t ≡ none) (done : verdict_of (report t).ring_length ≡ complete) where
   -- After s times L rounds and one more, from every valid heard state and by whatever accepted calls, the heard state

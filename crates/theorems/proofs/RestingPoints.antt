@@ -18,7 +18,7 @@ use Rattle.laws.specs.RunLaws.{all_listen}
 use Rattle.laws.specs.MachineLaws.{speaker_present, choice_destination, choice_spoken, speaks_other, speaks_destination, listening, step_here}
 use Rattle.laws.specs.AnswerLaws.{step_admitted, step_accepted}
 use Rattle.theorems.specs.Claims.{Resting, Rests, storing}
-use Rattle.theorems.specs.StoringLaws.{choice_held, storing_holds, storing_valid, holding_stored}
+use Rattle.theorems.proofs.StoringLaws.{choice_held, storing_holds, storing_valid, holding_stored}
 
 -- Where every heard byte at a listening pair is the speaker's present choice, no step changes a byte ..
 pub resting_unchanged : (t heard : List ℕ) → Resting t heard → (p : Pair) → heard_after_step t heard p ≡ heard

@@ -1,0 +1,3 @@
+-- Laws that rest on a definition of specs/ by one another.
+pub mod SearchLaws
+pub mod ListLaws
