@@ -1,4 +1,5 @@
 // The answers of the check, the step and the run: enums for what can happen, beside the counts.
+#![tactic(auto)]
 
 // Complete, stuck with the ring's length, or refused with number and place.
 #[derive(Clone, Copy)]
