@@ -1,13 +1,13 @@
-//! Links the proved code, which `rt staticlib reefsplice` and `rt staticlib probe` write.
+//! Links the proved code, which `rt lib` writes in crates/reefsplice and in crates/probe.
 
 use std::env;
 
 fn main() {
     let home = env::var("CARGO_MANIFEST_DIR").unwrap();
-    let libraries = format!("{home}/../target/staticlib");
-    println!("cargo:rustc-link-search=native={libraries}");
     for name in ["reefsplice", "probe"] {
-        println!("cargo:rerun-if-changed={libraries}/lib{name}.a");
+        let folder = format!("{home}/../crates/{name}/out");
+        println!("cargo:rerun-if-changed={folder}/lib{name}.a");
+        println!("cargo:rustc-link-search=native={folder}");
         println!("cargo:rustc-link-lib=static={name}");
     }
 }

@@ -21,7 +21,7 @@ class Leaf(NamedTuple):
 
 
 class Group(NamedTuple):
-    bracket: str
+    bracket: str  # or a point: a value and its projections, written tight
     items: tuple
     start: int
     end: int
@@ -83,8 +83,18 @@ def parse(text, start, end):
             bracket, at = opened.pop()
             stack[-1].append(Group(bracket, items, at, found.end()))
         elif not word.startswith("--"):
-            stack[-1].append(Leaf(word, found.start(), found.end()))
+            add(stack[-1], Leaf(word, found.start(), found.end()))
     return tuple(stack[0])
+
+
+def add(items, leaf):
+    """Puts a word behind the others; a projection joins what it stands behind with no blank."""
+    before = items[-1] if items else None
+    if before and len(leaf.text) > 1 and leaf.text.startswith(".") and before.end == leaf.start:
+        parts = before.items if isinstance(before, Group) and before.bracket == "." else (before,)
+        items[-1] = Group(".", (*parts, leaf), before.start, leaf.end)
+    else:
+        items.append(leaf)
 
 
 def lines_of(text):
@@ -234,7 +244,7 @@ def expressions(items, tested=False):
 
 
 # From the loosest operators to the tightest.
-LEVELS = ("≡ ≢", "orElse", "||", "&&", "++", "∷", "+ - +ℤ -ℤ", "* / %")
+LEVELS = ("≡ ≢", "or_else", "||", "&&", "++", "∷", "+ - +ℤ -ℤ", "* / %")
 
 
 def chains(stretch, level=0):
@@ -268,7 +278,7 @@ def pattern_variables(pattern, type_):
 
 def arguments(definition, clause):
     """The patterns of a clause, without the definition's name or the parts of its operator."""
-    parts = {part for part in definition.name.split("_") if part} | {definition.name}
+    parts = {part for part in definition.name.split("◌") if part} | {definition.name}
     return [item for item in clause.patterns if not (isinstance(item, Leaf) and item.text in parts)]
 
 

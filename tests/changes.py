@@ -9,10 +9,10 @@ from antt import Group, Leaf
 
 # The library's names that a change may bring in, by the module that has them.
 HOMES = {
-    "mathlib.Core.Bool": {"true", "false", "not", "_||_", "_&&_"},
-    "Prim.Native.Nat": {"_+_", "_-_", "_*_", "_/_", "_%_", "min", "max"},
-    "lib.ListN": {"take", "drop"},
-    "lib.IntN": {"_+ℤ_", "_-ℤ_"},
+    "Rattle.std.specs.Prelude": {
+        *("true", "false", "not", "◌||◌", "◌&&◌", "take", "drop", "min", "max"),
+        *("◌+◌", "◌-◌", "◌*◌", "◌/◌", "◌%◌", "◌+ℤ◌", "◌-ℤ◌"),
+    },
 }
 # A word for which another stands, by the kind of the change.
 EXCHANGED = {
@@ -30,7 +30,7 @@ KINDS = (
     *EXCHANGED,
     *("number-up", "number-down", "letter-changed", "blank-dropped"),
     *("projection-exchanged", "fields-exchanged", "variable-exchanged", "name-exchanged", "arguments-exchanged"),
-    *("append-exchanged", "orElse-exchanged", "operand-dropped", "elements-exchanged", "element-dropped"),
+    *("append-exchanged", "or_else-exchanged", "operand-dropped", "elements-exchanged", "element-dropped"),
     *("not-dropped", "suc-dropped", "eqb-negated", "ltb-turned", "ltb-widened"),
     *("arms-exchanged", "arms-copied", "clauses-exchanged", "clauses-copied", "premise-dropped", "let-forgotten"),
 )
@@ -169,11 +169,11 @@ def operands(place):
     for parts, operators in antt.chains(place.items):
         word = operators[0].text
         elements = parts[:-1] if word == "∷" else parts
-        kinds = {"∷": "elements-exchanged", "++": "append-exchanged", "orElse": "orElse-exchanged"}
+        kinds = {"∷": "elements-exchanged", "++": "append-exchanged", "or_else": "or_else-exchanged"}
         if word in kinds:
             for one, other in pairwise(elements):
                 yield kinds[word], exchange(place.text, one, other)
-        if word in {"∷", "orElse", "||", "&&"} and len(elements) > 1:
+        if word in {"∷", "or_else", "||", "&&"} and len(elements) > 1:
             for k in range(len(elements)):
                 yield ("element-dropped" if word == "∷" else "operand-dropped"), drop(parts, k)
 
@@ -379,14 +379,14 @@ class World:
     def imported(self, definition, text, edits):
         """The changed file, with the names brought in that the change uses and the file does not."""
         for word in {leaf.text for edit in edits for leaf in antt.leaves(antt.parse(edit.text, 0, len(edit.text)))}:
-            for name in (word, f"_{word}_"):
+            for name in (word, f"◌{word}◌"):
                 for module, known in HOMES.items():
                     if name in known:
                         text = bring(text, re.escape(module), module, name)
             other = self.by_name.get(word)
             if other and other.file != definition.file:
                 stem = other.file.removesuffix(".antt")
-                text = bring(text, rf"Rattle·\S+\.specs\.{stem}", None, word)
+                text = bring(text, rf"Rattle\.\w+\.specs\.{stem}", None, word)
         return text
 
 

@@ -23,31 +23,40 @@ NUMBER_BYTES, NUMBERS_BYTES = 4, 32
 BUFFER_LENGTH = "1"  # the code of a refusal for the length of a lent buffer
 
 
-def build(words):
-    done = subprocess.run(words, cwd=ROOT, stdin=subprocess.DEVNULL, capture_output=True, text=True)
+def archive(crate):
+    """Where `rt lib` writes a static library, from the root."""
+    return f"crates/{crate}/out/lib{crate}.a"
+
+
+def build(words, folder=ROOT):
+    done = subprocess.run(words, cwd=folder, stdin=subprocess.DEVNULL, capture_output=True, text=True)
     if done.returncode != 0:
         raise RuntimeError(f"{words[0]} ended with status {done.returncode}: {(done.stdout + done.stderr)[-2000:]}")
 
 
 @functools.cache
 def build_libraries():
-    """Once for all tests of a run, since rt proves the crate again each time."""
+    """Once for all tests of a run, since rt looks at all that the crate stands on each time."""
     test_samples.setUpModule()
     build_entries()
-    build(["rt", "staticlib", "probe"])
+    build_archive("probe")
     BUILT.mkdir(parents=True, exist_ok=True)
 
 
 @functools.cache
 def build_entries():
-    build(["rt", "staticlib", "reefsplice"])
+    build_archive("reefsplice")
+
+
+def build_archive(crate):
+    build(["rt", "lib"], ROOT / "crates" / crate)
 
 
 def build_driver(place, *sources, flags=()):
     """A C program over the proved code."""
     build_libraries()
     files = [f"tests/{source}" for source in (*sources, "lines.c", "lent.c")]
-    files += [f"target/staticlib/lib{crate}.a" for crate in ("reefsplice", "probe")]
+    files += [archive(crate) for crate in ("reefsplice", "probe")]
     warnings = ["-std=c11", "-O2", "-Wall", "-Wextra", "-Werror"]
     build(["gcc", *warnings, "-Iinclude", *flags, *files, "-o", place])
 

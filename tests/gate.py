@@ -17,20 +17,25 @@ from typing import NamedTuple
 
 ROOT = Path(__file__).resolve().parent.parent
 LOGS = ROOT / ".build" / "log"
-# rt tries so many edits at a time and waits for all of them; more than there are processors leave none of these idle meanwhile.
-RT_JOBS = 6
 COUNTS = re.compile(r"(\d+) passed, (\d+) failed")
 # How the prover names what fails: at a proof file, and at a function that has none.
 COMPLAINT = re.compile(r"\berror[:\[]|it is not proved that")
-# An error at a place of a file; the rest of its words may stand on the lines below.
-ERROR = re.compile(r"^\S+\.antt:\d+:\d+: error\b")
-# What the prover says first where an edit only made the proof file unfit for the code, so that no fact was tried.
+# What the prover says where an edit only made the proof file unfit for the code, so that no fact was tried.
 MISFITS = (
-    "has no `Need-",
+    "has no `",
     "` has no field `",
     "is not in scope",
+    "was not admitted",
     "a dimension (`0`, `1` or an interval variable) is expected here",
 )
+# What rt ci says of an edit, and where the first error that shows a fact stands. After "refused, as it must be" it has a reason in
+# brackets where no fact was shown.
+EDIT = re.compile(r"^rt: must-fail (\S+)\.edit: (.*)$")
+REFUSED = "refused, as it must be: "
+# Where an example of the rules stands.
+EXAMPLE = re.compile(r"(?:\./)?(?:specs|proofs)/\w*Examples\.antt:\d+:\d+: ")
+# On the line of a run that passed.
+BAD_EDITS = re.compile(r", \d+ bad\b")
 LONGEST_LINE = 300
 
 
@@ -84,70 +89,84 @@ def judge_tools(missing, said):
     return Counts(len(TOOLS) - len(missing), failures)
 
 
-# ---- rt ci, the formatting, the must-fail edits and the public contracts
+# ---- rt ci, the must-fail edits and the public contracts
+
+# A name on the line of failures: a crate, one's tests or its run, or a must-fail edit.
+FAILED = re.compile(r"\S+(?: \((?:tests|run)\))?")
+
+
+def run_rt_ci():
+    """Proves and tries all of this checkout, as it stands, and holds what is said to what is asked."""
+    status, text = run("rt-ci", ["rt", "ci"])
+    return judge_rt_ci(status, text)
 
 
 def judge_rt_ci(status, text):
-    """Takes the counts of rt's own last line; whatever its counts, a status other than 0 is a failure."""
+    """Takes the counts of rt's own last line; whatever its counts, it fails with a status other than 0, without the line of a run that
+    passed, and where that line counts an edit that is bad."""
     lines = text.splitlines()
     counts = COUNTS.fullmatch(lines[-1]) if lines else None
     passed, failed = map(int, counts.groups()) if counts else (0, 0)
-    names = [name for line in lines if line.startswith("rt: FAILED:") for name in line.split()[2:]]
+    names = [name for line in lines if line.startswith("rt: FAILED:") for name in FAILED.findall(line.removeprefix("rt: FAILED:"))]
     failures = [f"rt ci: {rt_reason(name, lines)}" for name in names]
-    failures += ["rt ci: a failure that it does not name"] * (failed - len(failures))
+    failures += [f"rt ci: a failure that it does not name; {last_words(lines)}"] * (failed - len(failures))
     if (status != 0 or not counts) and not failures:
         failures = [f"rt ci: it ended with status {status} and the line: {lines[-1] if lines else ''}"]
-    complaints = tuple(line for line in lines if COMPLAINT.search(line))
+    well = [line for line in lines if line.startswith("rt: ok")]
+    if not well and not failures:
+        failures = ["rt ci: it has no line `rt: ok`"]
+    failures += [f"rt ci: bad must-fail edits: {line}" for line in well if BAD_EDITS.search(line)]
+    complaints = tuple(line for line in lines if COMPLAINT.search(line) and not line.startswith("rt: must-fail "))
     return Counts(passed, failures, complaints[:5] if failures else ())
 
 
+def last_words(lines):
+    """What rt said last, but for its counts."""
+    return next((line.removeprefix("rt: ") for line in reversed(lines) if line.startswith("rt: ")), "it said nothing")
+
+
 def rt_reason(name, lines):
-    """What rt says about a name of its line of failures: a crate, a must-fail edit, or all files in no crate."""
-    if name == "lost-files":
-        about = [line for line in lines if line.startswith("rt: in no crate")]
+    """What rt says about a name of its line of failures."""
+    crate = name.partition(" (")[0]
+    if crate == name:
+        starts = (f"rt: {name} NOT PROVED", f"rt: {name}: its tests are NOT PROVED", f"rt: must-fail {name}: ")
     else:
-        about = [line for line in lines if line.startswith((f"rt: {name} ", f"rt: must-fail {name}: "))]
-    return "; ".join(line.removeprefix("rt: ") for line in about) or name
+        starts = (f"rt: {crate}: ", f"rt: {crate} (")
+    return "; ".join(line.removeprefix("rt: ") for line in lines if line.startswith(starts)) or name
 
 
-def judge_formatting(status, text):
-    """`rt fmt --check` writes one line for each file that it would change."""
-    if status == 0:
-        return Counts(1, [])
-    lines = text.replace(f"{ROOT}/", "").splitlines() or ["no reason given"]
-    return Counts(0, [f"formatting: {line}" for line in lines])
-
-
-def judge_edits(root):
-    """Holds each must-fail edit to its log: a fact must fail, and not only the proof file's fit."""
+def judge_edits(root, text):
+    """Holds each must-fail edit to what rt ci says of it: a fact must fail, and not only the proof file's fit."""
+    told = dict(found.groups() for line in text.splitlines() if (found := EDIT.match(line)))
     counts = Counts(0, [])
     for edit in sorted(path for path in root.glob("crates/*/must-fail/**/*") if path.is_file()):
         _, crate, _, *label = edit.relative_to(root).parts
-        # For rt a file with another ending or in a folder below is no edit, so it has no log and is found here.
+        # For rt a file with another ending or in a folder below is no edit that it tries, so it says nothing of one of that name.
         name = "/".join([crate, *label]).removesuffix(".edit")
-        fault = edit_fault(root / "target" / "must-fail" / name / ".log", crate)
+        fault = edit_fault(told.get(name) if edit.suffix == ".edit" else None, crate)
         counts = counts.plus(Counts(0, [f"must-fail {name}: {fault}"]) if fault else Counts(1, []))
     return counts
 
 
-def edit_fault(log, crate):
-    """What is wrong with an edit's log, or nothing. In `rules` an example must notice, and not the definitions themselves."""
-    if not log.is_file():
-        return "it has no log, so nothing refused it"
-    lines = log.read_text(encoding="utf-8", errors="replace").splitlines()
-    first = next((line for line in lines if COMPLAINT.search(line)), None)
-    if first is None:
-        return "its log names no fact that fails"
+def edit_fault(said, crate):
+    """What is wrong with what rt says of an edit, or nothing. In `rules` an example must notice, and not the definitions themselves."""
+    if said is None:
+        return "rt ci does not say that it was refused"
+    if not said.startswith(REFUSED):
+        return f"no fact was seen to fail: {said}"
+    first = said.removeprefix(REFUSED)
+    if not COMPLAINT.search(first):
+        return "what is said of it names no fact that fails"
     if any(words in first for words in MISFITS):
         return "its first error only says that the proof file no longer fits"
-    if crate == "rules" and not all("Examples.antt:" in line for line in lines if ERROR.search(line)):
+    if crate == "rules" and not EXAMPLE.match(first):
         return "it is refused elsewhere than at an example"
     return None
 
 
 # Comments and quoted text, in which no contract stands.
-ASIDE = re.compile(r"""//[^\n]*|/\*.*?\*/|b?"(?:\\.|[^"\\])*"|b'(?:\\.|[^'\\])'""", re.DOTALL)
-PUBLIC = re.compile(r"\bpub\s+(?:(?:const|extern)\s+)*fn\s+(\w+)")
+ASIDE = re.compile(r"""//[^\n]*|/\*.*?\*/|b?"(?:\\.|[^"\\])*"|b?'(?:\\.|[^'\\])'""", re.DOTALL)
+PUBLIC = re.compile(r"\bpub\s+(?:(?:const|unsafe|extern)\s+)*fn\s+(\w+)")
 CLAUSE = re.compile(r"\b(requires|ensures)\b")
 
 
@@ -245,9 +264,8 @@ def first_words(why):
 def parts():
     """Each part's name, and the function that runs and judges it."""
     yield "tools", install_tools
-    yield "rt ci", lambda: judge_rt_ci(*run("rt-ci", ["env", f"RT_JOBS={RT_JOBS}", "rt", "ci"]))
-    yield "formatting", lambda: judge_formatting(*run("formatting", ["rt", "fmt", "--check"]))
-    yield "must-fail logs", lambda: judge_edits(ROOT)
+    yield "rt ci", run_rt_ci
+    yield "must-fail edits", lambda: judge_edits(ROOT, (LOGS / "rt-ci.log").read_text(encoding="utf-8", errors="replace"))
     yield "contracts", lambda: judge_contracts(ROOT)
     yield "second", run_second
     for path in sorted(ROOT.glob("tests/test_*.py")):

@@ -7,7 +7,7 @@ import comparing
 from comparing import ROOT
 
 BUILT = ROOT / ".build" / "entries"
-LIBRARY = "target/staticlib/libreefsplice.a"
+LIBRARY = comparing.archive("reefsplice")
 WARNINGS = ["-O2", "-Wall", "-Wextra", "-Werror", "-pedantic"]
 # Status 9 where the checker found something, so that it is not taken for the program's own.
 CHECKER = ["valgrind", "--error-exitcode=9", "--leak-check=full", "-q"]

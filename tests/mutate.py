@@ -7,7 +7,8 @@
     tests/mutate.py --name Greedy.antt:87:true-false-exchanged:1
 
 The definitions are those of crates/rules and of three files of crates/lists; the examples are the files *Examples.antt
-of crates/rules. No law is looked at. Each change is checked in a scratch repository outside of this one.
+of crates/rules and their theorems in its proofs/. No law is looked at. Each change is checked in a scratch repository
+outside of this one.
 docs/TESTING.md says what the results mean.
 """
 
@@ -35,14 +36,14 @@ ROOT = Path(__file__).resolve().parent.parent
 SAME = Path(__file__).resolve().parent / "mutants_same.txt"
 # The files of crates/lists that have definitions; the rest of that crate are laws, which are no examples.
 LISTS = ("Search.antt", "Fill.antt", "Fold.antt")
+CRATES = ("lists", "rules")
+# The code of a crate that has only definitions.
+EMPTY = "// Definitions.\n#![tactic(auto)]\n"
 # A check may need so many times what the unchanged one needs of the processor, and at least so many seconds of it,
 # however busy the machine is; and so many seconds by the clock.
 TIMES = 5
 CPU_SECONDS = 15
 CLOCK_SECONDS = 300
-# How many example files are checked first.
-FIRST_FILES = 3
-USED = re.compile(r"^use Rattle·\S+\.specs\.(\w+)", re.MULTILINE)
 ERROR = re.compile(r"^(\S+\.antt):\d+:\d+: error: .*$", re.MULTILINE)
 
 NOTICED, SURVIVED, ILL_FORMED, SLOW, KNOWN = "noticed", "survived", "ill-formed", "slow", "known the same"
@@ -63,7 +64,8 @@ class Broken(Exception):
 
 
 def is_example(path):
-    return path.name.endswith("Examples.antt")
+    """Whether a file of `rules` is one of the worked examples: a list of them, or theorems about such a list."""
+    return path.name.endswith("Examples.antt") or "proofs" in path.parts
 
 
 def sources(root):
@@ -76,23 +78,32 @@ def sources(root):
 
 def lay_out(root, folder):
     """Copies the definitions and the examples into a folder that is a repository of its own."""
-    for crate in ("lists", "rules"):
-        shutil.copytree(root / "crates" / crate / "src", folder / "crates" / crate / "src")
-        (folder / "crates" / crate / "specs").mkdir()
-    specs = folder / "crates" / "lists" / "specs"
+    source, specs = folder / "crates" / "lists" / "src", folder / "crates" / "lists" / "specs"
+    source.mkdir(parents=True)
+    # Of `lists` the definitions alone, without the functions that speak of its laws.
+    (source / "lib.rt").write_text(EMPTY, encoding="utf-8")
+    specs.mkdir()
     for name in LISTS:
         shutil.copy(root / "crates" / "lists" / "specs" / name, specs)
     (specs / "Lib.antt").write_text("".join(f"pub mod {Path(name).stem}\n" for name in LISTS), encoding="utf-8")
-    shutil.copytree(root / "crates" / "rules" / "specs", folder / "crates" / "rules" / "specs", dirs_exist_ok=True)
+    for part in ("src", "specs", "proofs"):
+        if (root / "crates" / "rules" / part).is_dir():
+            shutil.copytree(root / "crates" / "rules" / part, folder / "crates" / "rules" / part)
     (folder / "crates.txt").write_text("lists:\nrules: lists\n", encoding="utf-8")
 
 
 def run(folder, seconds):
     """Checks a scratch repository within the limits; gives the exit status, none by the clock, and the output."""
-    limited = ["sh", "-c", f'ulimit -t {seconds}; exec "$@"', "sh", "rt", "dev", "rules"]
+    # One process for each check, since a check for each processor runs at a time.
+    limited = ["sh", "-c", f'ulimit -t {seconds}; exec "$@"', "sh", "rt", "check", "--jobs", "1"]
     with tempfile.TemporaryFile() as out:
         process = subprocess.Popen(
-            limited, cwd=folder, stdin=subprocess.DEVNULL, stdout=out, stderr=out, start_new_session=True
+            limited,
+            cwd=folder / "crates" / "rules",
+            stdin=subprocess.DEVNULL,
+            stdout=out,
+            stderr=out,
+            start_new_session=True,
         )
         try:
             status = process.wait(CLOCK_SECONDS)
@@ -126,52 +137,11 @@ def judge(status, output):
     raise Broken(f"a check ended with status {status} and without the place of an error:\n{output}")
 
 
-class Examples:
-    """The example files of a scratch repository, and which of them a change of a file can make fail."""
-
-    def __init__(self, folder):
-        self.specs = folder / "crates" / "rules" / "specs"
-        texts = {path.stem: path.read_text(encoding="utf-8") for path in folder.glob("crates/*/specs/*.antt")}
-        self.uses = {stem: {*USED.findall(text)} for stem, text in texts.items()}
-        self.lib = (self.specs / "Lib.antt").read_text(encoding="utf-8")
-        self.texts = {stem: text for stem, text in texts.items() if is_example(Path(f"{stem}.antt"))}
-
-    def reach(self, stem):
-        """The files that a file rests on, with itself."""
-        found, open_ = set(), [stem]
-        while open_:
-            one = open_.pop()
-            if one not in found:
-                found.add(one)
-                open_ += self.uses.get(one, ())
-        return found
-
-    def stages(self, file):
-        """The example files to check after a change, a few at first, since most changes are noticed early and a whole
-        check is slow; at last all that rest on the changed file. A file without a proof notices nothing."""
-        reach = {stem: self.reach(stem) for stem, text in self.texts.items() if re.search(r"\brefl\b", text)}
-        able = sorted((len(reach[stem]), stem) for stem in reach if Path(file).stem in reach[stem])
-        for size in sorted({min(FIRST_FILES, len(able)), len(able)}):
-            yield {one for _, stem in able[:size] for one in reach[stem] if one in self.texts}
-
-    def show(self, shown):
-        """Leaves the given example files in the repository, and no other."""
-        for stem, text in self.texts.items():
-            if stem in shown:
-                (self.specs / f"{stem}.antt").write_text(text, encoding="utf-8")
-            else:
-                (self.specs / f"{stem}.antt").unlink(missing_ok=True)
-        hidden = "|".join(stem for stem in self.texts if stem not in shown)
-        lib = re.sub(rf"^(?:pub )?mod (?:{hidden})$", "", self.lib, flags=re.MULTILINE) if hidden else self.lib
-        (self.specs / "Lib.antt").write_text(lib, encoding="utf-8")
-
-
 class Scratch:
     """A scratch repository; every check begins from what the unchanged definitions left."""
 
     def __init__(self, folder, kept, seconds=CLOCK_SECONDS):
         self.folder, self.kept, self.seconds = folder, kept, seconds
-        self.examples = Examples(folder)
 
     def path(self, file):
         return self.folder / "crates" / ("lists" if file in LISTS else "rules") / "specs" / file
@@ -183,11 +153,14 @@ class Scratch:
         if status != 0:
             raise Broken(f"the unchanged definitions are not proved:\n{output}")
         self.seconds = max(CPU_SECONDS, math.ceil(TIMES * (processor_seconds() - before)))
-        (self.folder / "target").rename(self.kept)
+        for crate in CRATES:
+            (self.folder / "crates" / crate / "out").rename(self.kept / crate)
 
     def again(self):
-        shutil.rmtree(self.folder / "target", ignore_errors=True)
-        shutil.copytree(self.kept, self.folder / "target")
+        for crate in CRATES:
+            out = self.folder / "crates" / crate / "out"
+            shutil.rmtree(out, ignore_errors=True)
+            shutil.copytree(self.kept / crate, out)
 
     def check(self, change):
         path, start = self.path(change.file), time.monotonic()
@@ -195,11 +168,7 @@ class Scratch:
         path.write_text(change.text, encoding="utf-8")
         try:
             self.again()
-            for shown in self.examples.stages(change.file):
-                self.examples.show(shown)
-                status, error = judge(*run(self.folder, self.seconds))
-                if status != SURVIVED:
-                    break
+            status, error = judge(*run(self.folder, self.seconds))
         finally:
             path.write_bytes(unchanged)
         return Result(change, status, error.replace(f"{self.folder}/", ""), time.monotonic() - start)
@@ -209,6 +178,7 @@ def check_all(root, chosen, jobs, tell):
     """The results in the order of the changes; each worker has a scratch repository of its own."""
     with tempfile.TemporaryDirectory(prefix="mutants") as holder:
         kept = Path(holder) / "kept"
+        kept.mkdir()
         lay_out(root, Path(holder) / "0")
         first = Scratch(Path(holder) / "0", kept)
         first.prepare()
@@ -262,7 +232,7 @@ def full_name(change):
 
 
 def read_same(text):
-    """Entries such as `Table.rankOf: getD r 0 0 => getD r 0 1 # why`, one to a line."""
+    """Entries such as `Table.rank_of: get_or r 0 0 => get_or r 0 1 # why`, one to a line."""
     entries = []
     for number, line in enumerate(text.splitlines(), 1):
         if line.strip() and not line.startswith("#"):

@@ -68,16 +68,32 @@ class Front(unittest.TestCase):
         self.assertEqual(front("demo", env=os.environ | {"LC_ALL": "C"}), (0, expected, ""))
 
 
-# Stands in for rt: it proves nothing, reads all that it is given, and makes a program that prints the source, its
-# arguments and its input, and a library that is the source; a source that says `wrong` is not proved.
+# Stands in for rt in a crate's folder: it proves nothing, reads all that it is given, and makes a program that prints the
+# source, its arguments and its input, and a library that is the source; a source that says `wrong` is not proved. As rt does,
+# it says all on standard error under `run`, and then the program prints: what is stored, or under a source that says `other`
+# something else.
 RT = """#!/bin/sh
-echo "rt $*: $(cat)"
-mkdir -p target/bin target/staticlib
-! grep -q wrong crates/a/src/lib.rt || exit 1
-cp crates/a/src/lib.rt "target/staticlib/lib$2.a"
-printf '#!/bin/sh\\necho %s "$@"\\ncat\\n' "$(cat crates/a/src/lib.rt)" >"target/bin/$2"
-chmod +x "target/bin/$2"
+source=../a/src/lib.rt name=${PWD##*/}
+[ "$1" = run ] || exec 3>&1
+[ "$1" != run ] || exec 3>&2
+echo "rt $* in $name: $(cat)" >&3
+mkdir -p out
+! grep -q wrong "$source" || exit 1
+cp "$source" "out/lib$name.a"
+printf '#!/bin/sh\\necho %s "$@"\\ncat\\n' "$(cat "$source")" >"out/$name"
+chmod +x "out/$name"
+[ "$1" = run ] || exit 0
+! grep -q other "$source" || exec echo other
+cat stdout
 """
+
+
+# What rt is called for: its words, the crate, and what it is given; the stored case of a program.
+MADE = {
+    "check": "run -- in check_program: a table",
+    "run": "run -- data/table another word in run_program: ",
+    "lib": "lib in reefsplice: ",
+}
 
 
 class Building(unittest.TestCase):
@@ -90,6 +106,11 @@ class Building(unittest.TestCase):
         self.source = self.home / "crates/a/src/lib.rt"
         self.source.parent.mkdir(parents=True)
         (self.home / "crates.txt").write_text("a:\n")
+        stored = {"check_program/stdin": "a table", "check_program/stdout": "a check\n", "run_program/args": "table\nanother word\n"}
+        stored |= {"run_program/data/table": "a table", "run_program/stdout": "a run\n", "reefsplice/src/lib.rt": ""}
+        for name, text in stored.items():
+            (self.home / "crates" / name).parent.mkdir(parents=True, exist_ok=True)
+            (self.home / "crates" / name).write_text(text)
         shutil.copy(FRONT, self.home)
         self.tools = self.home.parent / "tools"
         self.tools.mkdir()
@@ -103,8 +124,7 @@ class Building(unittest.TestCase):
         path = f"{self.tools}:{os.environ['PATH']}" if tools else os.defpath
         how = {"path": self.home / "reefsplice", "env": os.environ | {"PATH": path}}
         status, out, said = front(*words, table=b"input\n", **how)
-        made = "staticlib reefsplice" if words[0] == "lib" else f"check {words[0]}_program"
-        return status, out, f"rt {made}: \n" in said
+        return status, out, f"\nrt {MADE[words[0]]}\n" in f"\n{said}"
 
     def check(self, source=None, tools=True):
         return self.call("check", source=source, tools=tools)
@@ -144,6 +164,20 @@ class Building(unittest.TestCase):
         for _ in range(2):
             self.assertEqual(self.check("wrong"), (1, "", True))
         self.assertEqual(self.check("one"), (0, "one\ninput\n", True))
+
+    def test_a_stored_run_that_prints_something_else(self):
+        for _ in range(2):
+            self.assertEqual(self.check("other"), (1, "", True))
+        self.assertEqual(self.check("one"), (0, "one\ninput\n", True))
+
+    def test_what_rt_made_is_no_source(self):
+        """A folder of that name that stands deeper is one."""
+        self.check("one")
+        for folder, is_source in (("out", False), ("proofs/out", True)):
+            made = self.home / "crates" / "a" / folder / "made"
+            made.parent.mkdir(parents=True)
+            made.write_text("x")
+            self.assertEqual(self.check(), (0, "one\ninput\n", is_source), folder)
 
     def test_each_program_is_built_by_itself(self):
         run = ["run", "a table", "-n"]

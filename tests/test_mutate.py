@@ -21,9 +21,8 @@ SEED = 64
 
 # One definition or more for each kind of change.
 MADE = """-- Nothing here counts: 7, true, not x, "word", a ++ b.
-use Prim.Native.Nat.{ℕ, zero, suc, _+_, _*_, _/_}
-use mathlib.Core.Bool.{Bool, true, false, not, _||_}
-use mathlib.Core.Path.{_≡_}
+use Rattle.std.specs.Prelude.{ℕ, zero, suc, ◌+◌, ◌*◌, ◌/◌, Bool, true, false, not, ◌||◌, ◌≡◌}
+use Rattle.std.proofs.Math.Option.{Option}
 
 pub record Pair : Type 0 where
   pub listener : ℕ
@@ -57,10 +56,10 @@ unfoldable pub words : ℕ → List ℕ
 words n = codes " none " ++ decimal n
 
 unfoldable pub decided : List ℕ → Option ℕ
-decided t = first t orElse second t
+decided t = first t or_else second t
 
 unfoldable pub turn : Pair → Pair
-turn p = record { listener = p .speaker; speaker = 5 }
+turn p = record { listener = p.speaker; speaker = 5 }
 
 unfoldable pub asked : ℕ → ℕ → ℕ
 asked a b = let c = size (a + 1) b in depth c (size a b)
@@ -114,12 +113,12 @@ class Made(unittest.TestCase):
         self.assertEqual(of("words", "append-exchanged"), ['words n = decimal n ++ codes " none "'])
         self.assertEqual(of("words", "letter-changed"), ['words n = codes " xone " ++ decimal n'])
         self.assertEqual(len(of("words", "blank-dropped")), 2)
-        self.assertEqual(of("decided", "orElse-exchanged"), ["decided t = second t orElse first t"])
+        self.assertEqual(of("decided", "or_else-exchanged"), ["decided t = second t or_else first t"])
 
     def test_records(self):
-        other = "turn p = record { listener = p .listener; speaker = 5 }"
+        other = "turn p = record { listener = p.listener; speaker = 5 }"
         self.assertEqual(of("turn", "projection-exchanged"), [other])
-        self.assertEqual(of("turn", "fields-exchanged"), ["turn p = record { listener = 5; speaker = p .speaker }"])
+        self.assertEqual(of("turn", "fields-exchanged"), ["turn p = record { listener = 5; speaker = p.speaker }"])
 
     def test_statements(self):
         self.assertEqual(of("Fits", "premise-dropped"), ["pub holds : (n : ℕ) → low ≡ 0"])
@@ -133,9 +132,15 @@ class Made(unittest.TestCase):
 
     def test_what_a_change_needs_is_imported(self):
         texts = {change.kind: change.text for change in made()}
-        self.assertIn("use mathlib.Core.Bool.{Bool, true, false, not, _||_, _&&_}\n", texts["and-or-exchanged"])
-        self.assertIn("use lib.ListN.{drop}\n", texts["take-drop-exchanged"])
-        self.assertNotIn("lib.ListN", texts["number-up"])
+        own = MADE.splitlines()[1]
+        self.assertIn(own.replace("}", ", ◌&&◌}") + "\n", texts["and-or-exchanged"])
+        self.assertIn(own.replace("}", ", drop}") + "\n", texts["take-drop-exchanged"])
+        self.assertIn(f"{own}\n", texts["number-up"])
+
+    def test_a_module_that_is_not_imported_is_imported(self):
+        texts = {change.kind: change.text for change in made("use Other.{x}\n" + MADE.split("\n", 3)[3])}
+        self.assertIn("use Rattle.std.specs.Prelude.{drop}\nuse Other.{x}\n", texts["take-drop-exchanged"])
+        self.assertNotIn("Prelude", texts["number-up"])
 
 
 class Places(unittest.TestCase):
@@ -181,11 +186,14 @@ class Places(unittest.TestCase):
 
 
 class Judged(unittest.TestCase):
-    EXAMPLE = "/x/crates/rules/specs/Examples.antt:3:1: error: `worked`: the two differ\n"
-    OWN = "/x/crates/rules/specs/Table.antt:9:1: error: `rankOf`: `drop` is not in scope\n"
+    EXAMPLE = "./proofs/Examples.antt:3:1: error: `worked`: the two differ\n"
+    LISTED = "./specs/RunExamples.antt:3:1: error: `worked`: the two differ\n"
+    OWN = "./specs/Table.antt:9:1: error: `rank_of`: `drop` is not in scope\n"
 
     def test_classes(self):
         self.assertEqual(mutate.judge(0, "logic=proved\n"), ("survived", ""))
+        self.assertEqual(mutate.judge(1, self.LISTED), ("noticed", self.LISTED.strip()))
+        self.assertEqual(mutate.judge(1, self.EXAMPLE.replace("Examples", "f/Answers"))[0], "noticed")
         self.assertEqual(mutate.judge(1, self.EXAMPLE), ("noticed", self.EXAMPLE.strip()))
         self.assertEqual(mutate.judge(1, self.EXAMPLE + self.OWN), ("ill-formed", self.OWN.strip()))
         for status in (None, 3, 137, 152, -24):
@@ -197,36 +205,26 @@ class Judged(unittest.TestCase):
                 mutate.judge(status, "rt: crates.txt: line 1: no\n")
 
 
-class Stages(Folder):
-    """Which example files are checked after a change."""
+class LaidOut(Folder):
+    """What stands in a scratch repository."""
 
-    def setUp(self):
-        super().setUp()
-        uses = {"Table": "", "Greedy": "Table", "Text": "", "Examples": "Table", "RunExamples": "Greedy"}
-        uses |= {"RingExamples": "Greedy Examples", "TextExamples": "Text RingExamples"}
-        for stem, used in uses.items():
-            lines = [f"use Rattle·rules·specs.specs.{one}.{{x}}\n" for one in used.split()]
-            self.write(f"crates/rules/specs/{stem}.antt", "".join(lines) + "worked = refl\n")
-        self.write("crates/rules/specs/TriedExamples.antt", "use Rattle·rules·specs.specs.Table.{x}\n")
-        self.write("crates/rules/specs/Lib.antt", "".join(f"pub mod {stem}\n" for stem in [*uses, "TriedExamples"]))
-        self.examples = mutate.Examples(self.root)
+    def laid(self, *names):
+        for name in names:
+            self.write(name, f"{name}\n")
+        with tempfile.TemporaryDirectory() as folder:
+            mutate.lay_out(self.root, Path(folder))
+            return {str(path.relative_to(folder)): path.read_text() for path in Path(folder).rglob("*") if path.is_file()}
 
-    def test_those_that_rest_on_the_changed_file(self):
-        few = {"Examples", "RunExamples", "RingExamples"}
-        self.assertEqual([*self.examples.stages("Table.antt")], [few, few | {"TextExamples"}])
-        self.assertEqual([*self.examples.stages("Text.antt")], [{"Examples", "RingExamples", "TextExamples"}])
-        self.assertEqual([*self.examples.stages("Other.antt")], [set()])
-
-    def test_the_others_are_not_there(self):
-        specs = self.root / "crates" / "rules" / "specs"
-        self.examples.show({"Examples"})
-        self.assertFalse((specs / "TextExamples.antt").exists())
-        lines = (specs / "Lib.antt").read_text().split("\n")
-        self.assertIn("pub mod Examples", lines)
-        self.assertNotIn("pub mod TextExamples", lines)
-        self.examples.show({*self.examples.texts})
-        self.assertTrue((specs / "TextExamples.antt").exists())
-        self.assertEqual((specs / "Lib.antt").read_text(), self.examples.lib)
+    def test_the_definitions_and_the_examples(self):
+        lists = [f"crates/lists/specs/{name}" for name in mutate.LISTS]
+        rules = ["src/lib.rt", "specs/Lib.antt", "specs/Table.antt", "specs/RunExamples.antt", "proofs/RunExamples.antt", "proofs/f/Answers.antt"]
+        rules = [f"crates/rules/{name}" for name in rules]
+        other = ["crates/lists/src/lib.rt", "crates/lists/specs/Laws.antt", "crates/lists/proofs/f/Answers.antt", "crates/rules/out/x"]
+        found = self.laid(*lists, *rules, *other, "crates/rules/must-fail/x.edit", "crates/laws/specs/Laws.antt")
+        self.assertEqual({name for name, text in found.items() if text == f"{name}\n"}, {*lists, *rules})
+        self.assertEqual(found.keys() - {*lists, *rules}, {"crates.txt", "crates/lists/specs/Lib.antt", "crates/lists/src/lib.rt"})
+        self.assertEqual(found["crates/lists/src/lib.rt"], mutate.EMPTY)
+        self.assertEqual(found["crates/lists/specs/Lib.antt"], "pub mod Search\npub mod Fill\npub mod Fold\n")
 
 
 class Known(unittest.TestCase):
@@ -309,22 +307,29 @@ class Chosen(unittest.TestCase):
             self.chosen("--only", "Made:nothing")
 
 
-SMALL = """use Prim.Native.Nat.{ℕ, suc, _+_}
-use mathlib.Core.Bool.{Bool, true, false}
+SMALL = """use Rattle.std.specs.Prelude.{ℕ, suc, ◌+◌, Bool, true, false}
 
-unfoldable pub twoMore : ℕ → ℕ
-twoMore n = n + 2
+unfoldable pub two_more : ℕ → ℕ
+two_more n = n + 2
 
 unfoldable pub always : Bool
 always = true
 """
-SMALL_EXAMPLES = """use mathlib.Core.Path.{_≡_, refl}
-use Rattle·rules·specs.specs.Small.{twoMore}
+SMALL_EXAMPLES = """use Rattle.std.specs.Prelude.{◌≡◌, refl}
+use Rattle.rules.specs.Small.{two_more}
 
-pub worked : twoMore 3 ≡ 5
-unfolding twoMore
+pub worked : two_more 3 ≡ 5
+unfolding two_more
 worked = refl
 """
+
+
+def is_there(status):
+    """Whether a process runs, by its file of /proc."""
+    try:
+        return "zombie" not in status.read_text()
+    except (FileNotFoundError, ProcessLookupError):
+        return False
 
 
 class Small(Folder):
@@ -335,9 +340,10 @@ class Small(Folder):
             self.write(f"crates/{crate}/src/lib.rt", "// Definitions.\n")
         for name in mutate.LISTS:
             self.write(f"crates/lists/specs/{name}", "-- Nothing.\n")
-        self.write("crates/rules/specs/Lib.antt", "pub mod Small\npub mod SmallExamples\n")
+        self.write("crates/rules/specs/Lib.antt", "pub mod Small\n")
         self.write("crates/rules/specs/Small.antt", SMALL)
-        self.write("crates/rules/specs/SmallExamples.antt", examples)
+        self.write("crates/rules/proofs/Lib.antt", "pub mod SmallExamples\n")
+        self.write("crates/rules/proofs/SmallExamples.antt", examples)
 
     def statuses(self, *more):
         candidates = [*changes.World(mutate.sources(self.root)).changes(), *more]
@@ -364,18 +370,26 @@ class Small(Folder):
         with self.assertRaisesRegex(mutate.Broken, "the unchanged definitions are not proved"):
             self.statuses()
 
-    def test_a_check_that_does_not_end(self):
-        self.write("rt", "#!/bin/sh\nsleep 600 & echo $! >child; wait\n")
+    def stand_in(self, text):
+        """Something else in the place of rt."""
+        self.write("rt", text)
         (self.root / "rt").chmod(0o755)
+        (self.root / "crates" / "rules").mkdir(parents=True)
+
+    def test_a_check_that_does_not_end(self):
+        self.stand_in("#!/bin/sh\nsleep 600 & echo $! >child; wait\n")
         path = f"{self.root}:{os.environ['PATH']}"
         with mock.patch.dict(os.environ, PATH=path), mock.patch.object(mutate, "CLOCK_SECONDS", 1):
             self.assertEqual(mutate.run(self.root, 60), (None, ""))
-        status = Path("/proc", (self.root / "child").read_text().strip(), "status")
-        self.assertTrue(not status.exists() or "zombie" in status.read_text())
+        status = Path("/proc", (self.root / "crates/rules/child").read_text().strip(), "status")
+        # A process that was killed can be there for a moment.
+        until = time.monotonic() + 5
+        while is_there(status) and time.monotonic() < until:
+            time.sleep(0.05)
+        self.assertFalse(is_there(status))
 
     def test_the_scratch_folder_goes_when_the_tool_is_ended(self):
-        self.write("rt", '#!/bin/sh\n: >"$BEGUN"; sleep 600\n')
-        (self.root / "rt").chmod(0o755)
+        self.stand_in('#!/bin/sh\n: >"$BEGUN"; sleep 600\n')
         (self.root / "tmp").mkdir()
         begun = self.root / "begun"
         own = {"PATH": f"{self.root}:{os.environ['PATH']}", "TMPDIR": str(self.root / "tmp"), "BEGUN": str(begun)}
@@ -387,8 +401,7 @@ class Small(Folder):
         self.assertEqual([*(self.root / "tmp").iterdir()], [])
 
     def test_a_check_that_needs_too_much_of_the_processor(self):
-        self.write("rt", "#!/bin/sh\nwhile :; do :; done\n")
-        (self.root / "rt").chmod(0o755)
+        self.stand_in("#!/bin/sh\nwhile :; do :; done\n")
         with mock.patch.dict(os.environ, PATH=f"{self.root}:{os.environ['PATH']}"):
             self.assertEqual(mutate.judge(*mutate.run(self.root, 1))[0], "slow")
 
@@ -412,10 +425,11 @@ class Project(unittest.TestCase):
     def test_without_the_examples_the_same_changes_survive(self):
         with tempfile.TemporaryDirectory() as holder:
             root = Path(holder)
-            for crate in ("lists", "rules"):
-                shutil.copytree(mutate.ROOT / "crates" / crate, root / "crates" / crate)
+            for crate in mutate.CRATES:
+                shutil.copytree(mutate.ROOT / "crates" / crate, root / "crates" / crate, ignore=shutil.ignore_patterns("out", "proofs"))
             for path in (root / "crates" / "rules" / "specs").glob("*Examples.antt"):
                 path.write_text("-- No example.\n", encoding="utf-8")
+            (root / "crates" / "rules" / "src" / "lib.rt").write_text(mutate.EMPTY, encoding="utf-8")
             lines, well = self.results(root, ["--only", "Report:rowBytes"])
         self.assertFalse(well)
         self.assertIn(" 0 noticed, ", lines[-1])
