@@ -52,14 +52,15 @@ def begins_one(name, known):
 
 
 def missing_files(spans):
-    """The spans that look like a file and are none, from the root, from `crates/` or in the `specs/` of any crate."""
+    """The spans that look like a file and are none, from the root, from `crates/` or in the `specs/` or `proofs/` of any crate."""
     files = [span for span in spans if FILE.fullmatch(span)]
     return [file for file in files if not any(place(file))]
 
 
 def place(file):
     crate, _, rest = file.partition("/")
-    for pattern in (file, f"crates/{file}", f"crates/{crate}/specs/{rest}", f"crates/*/specs/{file}"):
+    folders = [pattern for part in ("specs", "proofs") for pattern in (f"crates/{crate}/{part}/{rest}", f"crates/*/{part}/{file}")]
+    for pattern in (file, f"crates/{file}", *folders):
         yield next(ROOT.glob(pattern), None)
 
 
