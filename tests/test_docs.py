@@ -25,7 +25,8 @@ DEMANDS = {"1", "2", "3", "examples"}
 
 def declared():
     """The crates, and every name that some source of theirs declares."""
-    texts = [path.read_text(encoding="utf-8") for kind in ("antt", "rt") for path in ROOT.glob(f"crates/**/*.{kind}")]
+    kinds = [f"{part}/**/*.{kind}" for part in ("src", "specs", "proofs") for kind in ("antt", "rt")]
+    texts = [path.read_text(encoding="utf-8") for kind in kinds for path in ROOT.glob(f"crates/*/{kind}")]
     return {path.name for path in ROOT.glob("crates/*")} | {name for text in texts for name in DECLARED.findall(text)}
 
 
@@ -59,8 +60,8 @@ def missing_files(spans):
 
 def place(file):
     crate, _, rest = file.partition("/")
-    folders = [pattern for part in ("specs", "proofs") for pattern in (f"crates/{crate}/{part}/{rest}", f"crates/*/{part}/{file}")]
-    for pattern in (file, f"crates/{file}", *folders):
+    below = [f"crates/{pattern}" for part in ("specs", "proofs") for pattern in (f"{crate}/{part}/{rest}", f"*/{part}/{file}")]
+    for pattern in (file, f"crates/{file}", *below):
         yield next(ROOT.glob(pattern), None)
 
 
@@ -108,18 +109,19 @@ def told(document):
 
 
 def names_twice(paths):
-    """The names of files that stand in the specs of two crates; the toolchain wants a `Lib.antt` in each."""
-    counts = Counter(path.name for path in paths)
+    """The names of files that stand in the specs or the proofs of two crates; the toolchain wants a `Lib.antt` in each."""
+    counts = Counter(name for _, name in {(path.parts[-3], path.name) for path in paths})
     return sorted(name for name, count in counts.items() if count > 1 and name != "Lib.antt")
 
 
 class Specs(unittest.TestCase):
     def test_a_file_is_told_by_its_name(self):
-        self.assertEqual(names_twice(ROOT.glob("crates/*/specs/*.antt")), [])
+        paths = [path for part in ("specs", "proofs") for path in ROOT.glob(f"crates/*/{part}/*.antt")]
+        self.assertEqual(names_twice(paths), [])
 
     def test_a_name_that_stands_twice_is_found(self):
-        paths = [Path("a/Lib.antt"), Path("b/Lib.antt"), Path("a/RowLaws.antt"), Path("b/RowLaws.antt"), Path("b/Rows.antt")]
-        self.assertEqual(names_twice(paths), ["RowLaws.antt"])
+        names = ("a/specs/Lib", "b/specs/Lib", "a/specs/RowLaws", "b/proofs/RowLaws", "b/specs/Rows", "b/proofs/Rows")
+        self.assertEqual(names_twice([Path(f"{name}.antt") for name in names]), ["RowLaws.antt"])
 
 
 class Definitions(unittest.TestCase):
