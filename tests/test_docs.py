@@ -25,7 +25,8 @@ DEMANDS = {"1", "2", "3", "examples"}
 
 def declared():
     """The crates, and every name that some source of theirs declares."""
-    texts = [path.read_text(encoding="utf-8") for kind in ("antt", "rt") for path in ROOT.glob(f"crates/**/*.{kind}")]
+    kinds = [f"{part}/**/*.{kind}" for part in ("src", "specs", "proofs") for kind in ("antt", "rt")]
+    texts = [path.read_text(encoding="utf-8") for kind in kinds for path in ROOT.glob(f"crates/*/{kind}")]
     return {path.name for path in ROOT.glob("crates/*")} | {name for text in texts for name in DECLARED.findall(text)}
 
 
