@@ -53,14 +53,15 @@ def begins_one(name, known):
 
 
 def missing_files(spans):
-    """The spans that look like a file and are none, from the root, from `crates/` or in the `specs/` of any crate."""
+    """The spans that look like a file and are none, from the root, from `crates/` or in the `specs/` or `proofs/` of any crate."""
     files = [span for span in spans if FILE.fullmatch(span)]
     return [file for file in files if not any(place(file))]
 
 
 def place(file):
     crate, _, rest = file.partition("/")
-    for pattern in (file, f"crates/{file}", f"crates/{crate}/specs/{rest}", f"crates/*/specs/{file}"):
+    below = [f"crates/{pattern}" for part in ("specs", "proofs") for pattern in (f"{crate}/{part}/{rest}", f"*/{part}/{file}")]
+    for pattern in (file, f"crates/{file}", *below):
         yield next(ROOT.glob(pattern), None)
 
 
@@ -108,18 +109,19 @@ def told(document):
 
 
 def names_twice(paths):
-    """The names of files that stand in the specs of two crates; the toolchain wants a `Lib.antt` in each."""
-    counts = Counter(path.name for path in paths)
+    """The names of files that stand in the specs or the proofs of two crates; the toolchain wants a `Lib.antt` in each."""
+    counts = Counter(name for _, name in {(path.parts[-3], path.name) for path in paths})
     return sorted(name for name, count in counts.items() if count > 1 and name != "Lib.antt")
 
 
 class Specs(unittest.TestCase):
     def test_a_file_is_told_by_its_name(self):
-        self.assertEqual(names_twice(ROOT.glob("crates/*/specs/*.antt")), [])
+        paths = [path for part in ("specs", "proofs") for path in ROOT.glob(f"crates/*/{part}/*.antt")]
+        self.assertEqual(names_twice(paths), [])
 
     def test_a_name_that_stands_twice_is_found(self):
-        paths = [Path("a/Lib.antt"), Path("b/Lib.antt"), Path("a/RowLaws.antt"), Path("b/RowLaws.antt"), Path("b/Rows.antt")]
-        self.assertEqual(names_twice(paths), ["RowLaws.antt"])
+        names = ("a/specs/Lib", "b/specs/Lib", "a/specs/RowLaws", "b/proofs/RowLaws", "b/specs/Rows", "b/proofs/Rows")
+        self.assertEqual(names_twice([Path(f"{name}.antt") for name in names]), ["RowLaws.antt"])
 
 
 class Definitions(unittest.TestCase):
