@@ -118,13 +118,16 @@ class Building(unittest.TestCase):
         (self.tools / "rt").chmod(0o755)
 
     def call(self, *words, source=None, tools=True):
-        """Gives the status, the text, and whether rt was called for it."""
+        """Gives the status, the text, and whether rt was called for it; what rt says is kept, and shown where it fails."""
         if source:
             self.source.write_text(source)
         path = f"{self.tools}:{os.environ['PATH']}" if tools else os.defpath
         how = {"path": self.home / "reefsplice", "env": os.environ | {"PATH": path}}
         status, out, said = front(*words, table=b"input\n", **how)
-        return status, out, f"\nrt {MADE[words[0]]}\n" in f"\n{said}"
+        log = self.home / ".build" / words[0] / "log"
+        told = log.read_text() if "reefsplice: proving and building" in said else ""
+        self.assertEqual(told != "" and told in said, status == 1)
+        return status, out, f"\nrt {MADE[words[0]]}\n" in f"\n{told}"
 
     def check(self, source=None, tools=True):
         return self.call("check", source=source, tools=tools)

@@ -1,5 +1,5 @@
-//! The proved code on Rust's slices: the three C entries, which `rt staticlib reefsplice` exports, and the reader
-//! alone, which `rt staticlib probe` does.
+//! The proved code on Rust's slices: the three C entries, which `rt lib` exports in crates/reefsplice, and the reader
+//! alone, which it exports in crates/probe.
 
 // Rattle passes a slice as a pointer, then its length.
 extern "C" {

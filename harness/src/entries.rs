@@ -1,4 +1,4 @@
-//! The proved entries, as `rt staticlib reefsplice` exports them to C.
+//! The proved entries, as `rt lib` exports them to C.
 
 use crate::case::Entry;
 
