@@ -1,4 +1,4 @@
--- Laws of what the check's answer says: it says everything, so two answers that say the same are equal.
+-- Laws of what the check's answer says: it tells the refusal behind it. proofs/ has that it says everything.
 use Rattle.std.specs.Prelude.{◌≡◌, refl, ℕ, zero, suc}
 use Rattle.std.proofs.Math.Option.{Option, none, some}
 use Rattle.lists.specs.Tests.{impossible}
@@ -6,32 +6,7 @@ use Rattle.rules.specs.Refusals.{Refusal}
 use Rattle.rules.specs.Answers.{verdict, verdict_of}
 use Rattle.answer.specs.declared.Verdict.{Verdict}
 use Rattle.answer.specs.declared.Verdict.TheVariants.{Complete, Stuck, Refused}
-use Rattle.answer.specs.declared.Answer.{Answer}
-use Rattle.answer.specs.Meaning.{meaning, check_refusal_in, numbers}
-
--- different verdicts say different things
-pub meaning_tells : (a b : Verdict) → meaning a ≡ meaning b → a ≡ b
-unfolding meaning
-meaning_tells Complete Complete e = refl
-meaning_tells Complete (Stuck n) e = impossible cc
-meaning_tells Complete (Refused n k) e = impossible cc
-meaning_tells (Stuck n) Complete e = impossible cc
-meaning_tells (Stuck n) (Stuck m) e = cc
-meaning_tells (Stuck n) (Refused m k) e = impossible cc
-meaning_tells (Refused n k) Complete e = impossible cc
-meaning_tells (Refused n k) (Stuck m) e = impossible cc
-meaning_tells (Refused n k) (Refused m j) e = cc
-
--- an answer is told by what its verdict says and by its numbers
-pub answer_tells : (a b : Answer) → meaning a.verdict ≡ meaning b.verdict → numbers a ≡ numbers b → a ≡ b
-unfolding numbers
-answer_tells a b e f =
-    let v = meaning_tells a.verdict b.verdict e in
-    let s : a.settled ≡ b.settled = cc in
-    let w : a.stuck ≡ b.stuck = cc in
-    let k : a.stages ≡ b.stages = cc in
-    let l : a.longest ≡ b.longest = cc in
-    λ i. record { verdict = v i; settled = s i; stuck = w i; stages = k i; longest = l i }
+use Rattle.answer.specs.Meaning.{meaning, check_refusal_in}
 
 -- a verdict that says what the rules' verdict is tells the refusal behind that
 pub refusal_in : (v : Verdict) (o : Option Refusal) (n : ℕ) → meaning v ≡ verdict o (verdict_of n) → check_refusal_in v ≡ o

@@ -9,7 +9,7 @@ use Rattle.rules.specs.Answers.{other_length, check_refusal, check_verdict, chec
 use Rattle.answer.specs.declared.Answer.{Answer}
 use Rattle.answer.specs.Meaning.{meaning}
 use Rattle.answer.specs.Meaning as says
-use Rattle.answer.specs.MeaningLaws.{answer_tells}
+use Rattle.answer.proofs.MeaningLaws.{answer_tells}
 use Rattle.reporter.specs.Showing.{shown_report}
 use Rattle.reporter.specs.Reported.{Reported, lent_refusal, refusal_answer, reported_refused}
 use Rattle.checker.specs.AfterStages.{Ended}

@@ -19,7 +19,7 @@ use Rattle.answer.specs.declared.Verdict.{Verdict}
 use Rattle.answer.specs.declared.Verdict.TheVariants as told
 use Rattle.answer.specs.Meaning.{meaning, ring_length_in}
 use Rattle.answer.specs.Meaning as says
-use Rattle.answer.specs.MeaningLaws.{answer_tells}
+use Rattle.answer.proofs.MeaningLaws.{answer_tells}
 use Rattle.ring.specs.Ring.{Ringed, next_in, ring_in}
 use Rattle.ring.specs.FollowLaws.{ring_unmarked}
 use Rattle.report_rows.specs.ShownRows.{shown_rows}

@@ -17,7 +17,7 @@ use Rattle.lists.specs.FillLaws.{padded_length, padded_append, padded_tabulate, 
 use Rattle.lists.specs.ListLaws.{elem_cons, elem_nil, elem_at, elem_place}
 use Rattle.rules.specs.Greedy.{from_vertex, before_vertex, closed_part, lowest_of, turned, ring_from}
 use Rattle.laws.specs.RingLaws.{from_place}
-use Rattle.ring.specs.Ring.{ring_in, Ringed, next_in, lowest_marked, ClosedAt}
+use Rattle.ring.specs.Ring.{ring_in, Ringed, lowest_marked}
 
 -- the place of v in a list: as many as stand before it
 abbrev pub place_in : ℕ → List ℕ → ℕ
@@ -304,28 +304,8 @@ module _ (S : List Bool) where
         (λ q. rw (q, ring_from))
         (λ v q. let z : s ≡ v = rw (q, lowest_marked) at low in absurd (omega (arith, (first_found marks 0 64 v q).under)))
 
-    -- and where one is, the ring is the closed part of the walk from the lowest, turned
-    ring_walked : s ≢ 64 → ring_in S next ≡ turned (closed_part (next_in next) 65 [] s)
-    unfolding ring_in ring_from lowest_marked
-    ring_walked f =
-        by_option (first_from marks 0 64)
-        (λ q. absurd (f (rw (q, lowest_marked) at low)))
-        (λ v q. let z : s ≡ v = rw (q, lowest_marked) at low in rw (z, q, ring_from))
-
-    -- so what is written of the one and of the other is the ring, with its length
+    -- so what is written then is the ring, with its length; where a vertex is marked, proofs/ has it
 
     pub writes_none : (n : ℕ) {written : List ℕ} → s ≡ 64 → written ≡ padded n 255 [] → Ringed S next n 0 written
     writes_none n e q = let none_there = ring_empty e in
         record { count = sym (ap length none_there); ring = q ∙ ap (padded n 255) (sym none_there) }
-
-    pub writes_ring : (n : ℕ) {from to : ℕ} {seen written : List ℕ}
-        → s ≢ 64
-        → ClosedAt (next_in next) 65 s seen from to
-        → length seen ≡ 65
-        → written ≡ padded n 255 (turned (take (to - from) (drop from seen)))
-        → Ringed S next n (to - from) written
-    writes_ring n {from} {to} {seen} f c long q =
-        let part = take (to - from) (drop from seen) in
-        let is : ring_in S next ≡ turned part = ring_walked f ∙ ap turned (sym c.part) in
-        let count : length part ≡ to - from = length-take (to - from) (drop from seen) ∙ omega (arith, length-drop from seen) in
-        record { count = sym (ap length is ∙ turned_length part ∙ count); ring = q ∙ ap (padded n 255) (sym is) }

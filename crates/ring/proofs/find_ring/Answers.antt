@@ -1,7 +1,8 @@
 -- `ring::find_ring` meets its contract: the closed part of the walk from the lowest marked vertex, turned.
 -- Assumes nothing.
 use native.Mathlib.Omega.{arith}
-use Rattle.ring.specs.WalkLaws.{writes_none, writes_ring}
+use Rattle.ring.specs.WalkLaws.{writes_none}
+use Rattle.ring.proofs.WalkLaws.{writes_ring}
 use Rattle.ring.proofs.find_ring.Goals as goal
 
 pub returns-then-start-eq-VERTICES : goal.returns-then-start-eq-VERTICES
