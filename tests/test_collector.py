@@ -224,7 +224,7 @@ class Header(unittest.TestCase):
 
 # Stands in for rt where the library is built already, since a second proof of it would tell nothing new.
 RT = """#!/bin/sh
-[ "$*" = "staticlib reefsplice" ] && mkdir -p target/staticlib && cp '%s' target/staticlib/
+[ "$* in ${PWD##*/}" = "lib in reefsplice" ] && mkdir -p out && cp '%s' out/
 """
 
 
@@ -237,7 +237,7 @@ class Linking(Collector):
         for folder in ("include", "examples"):
             shutil.copytree(ROOT / folder, self.home / folder)
         shutil.copy(ROOT / "reefsplice", self.home)
-        (self.home / "crates").mkdir()
+        (self.home / "crates" / "reefsplice").mkdir(parents=True)
         (self.home / "crates.txt").write_text("")
         tools.mkdir()
         (tools / "rt").write_text(RT % (ROOT / linking.LIBRARY))
