@@ -39,6 +39,9 @@ LISTS = ("Search.antt", "Fill.antt", "Fold.antt")
 CRATES = ("lists", "rules")
 # The code of a crate that has only definitions.
 EMPTY = "// Definitions.\n#![tactic(auto)]\n"
+# How many example files are checked first.
+FIRST_FILES = 3
+USED = re.compile(r"^use Rattle\.\S+\.(?:specs|proofs)\.(\w+)", re.MULTILINE)
 # A check may need so many times what the unchanged one needs of the processor, and at least so many seconds of it,
 # however busy the machine is; and so many seconds by the clock.
 TIMES = 5
@@ -137,11 +140,63 @@ def judge(status, output):
     raise Broken(f"a check ended with status {status} and without the place of an error:\n{output}")
 
 
+class Examples:
+    """The example files of a scratch repository, and which of them a change of a file can make fail. The examples of a
+    file and the theorems about them, in the file of its name in `proofs`, go together."""
+
+    def __init__(self, folder):
+        rules = folder / "crates" / "rules"
+        paths = [path for part in ("specs", "proofs") for path in folder.glob(f"crates/*/{part}/*.antt")]
+        texts = {path: path.read_text(encoding="utf-8") for path in paths if path.name != "Lib.antt"}
+        self.uses = {path.stem: set() for path in texts}
+        for path, text in texts.items():
+            self.uses[path.stem] |= {*USED.findall(text)} - {path.stem}
+        self.libs = {path: path.read_text(encoding="utf-8") for path in rules.glob("*/Lib.antt")}
+        self.lib = self.libs[rules / "specs" / "Lib.antt"]
+        self.texts = {}
+        for path, text in texts.items():
+            if is_example(Path(path.name)):
+                self.texts.setdefault(path.stem, {})[path] = text
+
+    def reach(self, stem):
+        """The files that a file rests on, with itself."""
+        found, open_ = set(), [stem]
+        while open_:
+            one = open_.pop()
+            if one not in found:
+                found.add(one)
+                open_ += self.uses.get(one, ())
+        return found
+
+    def stages(self, file):
+        """The example files to check after a change, a few at first, since most changes are noticed early and a whole
+        check is slow; at last all that rest on the changed file. A file without a proof notices nothing."""
+        able = [stem for stem, texts in self.texts.items() if any(re.search(r"\brefl\b", text) for text in texts.values())]
+        reach = {stem: self.reach(stem) for stem in able}
+        able = sorted((len(reach[stem]), stem) for stem in reach if Path(file).stem in reach[stem])
+        for size in sorted({min(FIRST_FILES, len(able)), len(able)}):
+            yield {one for _, stem in able[:size] for one in reach[stem] if one in self.texts}
+
+    def show(self, shown):
+        """Leaves the given example files in the repository, and no other."""
+        for stem, texts in self.texts.items():
+            for path, text in texts.items():
+                if stem in shown:
+                    path.write_text(text, encoding="utf-8")
+                else:
+                    path.unlink(missing_ok=True)
+        hidden = "|".join(stem for stem in self.texts if stem not in shown)
+        for path, text in self.libs.items():
+            left = re.sub(rf"^(?:pub )?mod (?:{hidden})$", "", text, flags=re.MULTILINE) if hidden else text
+            path.write_text(left, encoding="utf-8")
+
+
 class Scratch:
     """A scratch repository; every check begins from what the unchanged definitions left."""
 
     def __init__(self, folder, kept, seconds=CLOCK_SECONDS):
         self.folder, self.kept, self.seconds = folder, kept, seconds
+        self.examples = Examples(folder)
 
     def path(self, file):
         return self.folder / "crates" / ("lists" if file in LISTS else "rules") / "specs" / file
@@ -168,7 +223,11 @@ class Scratch:
         path.write_text(change.text, encoding="utf-8")
         try:
             self.again()
-            status, error = judge(*run(self.folder, self.seconds))
+            for shown in self.examples.stages(change.file):
+                self.examples.show(shown)
+                status, error = judge(*run(self.folder, self.seconds))
+                if status != SURVIVED:
+                    break
         finally:
             path.write_bytes(unchanged)
         return Result(change, status, error.replace(f"{self.folder}/", ""), time.monotonic() - start)

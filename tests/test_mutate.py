@@ -227,6 +227,38 @@ class LaidOut(Folder):
         self.assertEqual(found["crates/lists/specs/Lib.antt"], "pub mod Search\npub mod Fill\npub mod Fold\n")
 
 
+class Stages(Folder):
+    """Which example files are checked after a change."""
+
+    def setUp(self):
+        super().setUp()
+        uses = {"Table": "", "Greedy": "Table", "Text": "", "Examples": "Table", "RunExamples": "Greedy"}
+        uses |= {"RingExamples": "Greedy Examples", "TextExamples": "Text RingExamples"}
+        for stem, used in uses.items():
+            lines = [f"use Rattle.rules.specs.{one}.{{x}}\n" for one in used.split()]
+            self.write(f"crates/rules/specs/{stem}.antt", "".join(lines) + "worked = refl\n")
+        self.write("crates/rules/specs/TriedExamples.antt", "use Rattle.rules.specs.Table.{x}\n")
+        self.write("crates/rules/specs/Lib.antt", "".join(f"pub mod {stem}\n" for stem in [*uses, "TriedExamples"]))
+        self.examples = mutate.Examples(self.root)
+
+    def test_those_that_rest_on_the_changed_file(self):
+        few = {"Examples", "RunExamples", "RingExamples"}
+        self.assertEqual([*self.examples.stages("Table.antt")], [few, few | {"TextExamples"}])
+        self.assertEqual([*self.examples.stages("Text.antt")], [{"Examples", "RingExamples", "TextExamples"}])
+        self.assertEqual([*self.examples.stages("Other.antt")], [set()])
+
+    def test_the_others_are_not_there(self):
+        specs = self.root / "crates" / "rules" / "specs"
+        self.examples.show({"Examples"})
+        self.assertFalse((specs / "TextExamples.antt").exists())
+        lines = (specs / "Lib.antt").read_text().split("\n")
+        self.assertIn("pub mod Examples", lines)
+        self.assertNotIn("pub mod TextExamples", lines)
+        self.examples.show({*self.examples.texts})
+        self.assertTrue((specs / "TextExamples.antt").exists())
+        self.assertEqual((specs / "Lib.antt").read_text(), self.examples.lib)
+
+
 class Known(unittest.TestCase):
     """The file of changes that are known to be the same."""
 
