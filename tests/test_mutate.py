@@ -462,7 +462,7 @@ class Project(unittest.TestCase):
             for path in (root / "crates" / "rules" / "specs").glob("*Examples.antt"):
                 path.write_text("-- No example.\n", encoding="utf-8")
             (root / "crates" / "rules" / "src" / "lib.rt").write_text(mutate.EMPTY, encoding="utf-8")
-            lines, well = self.results(root, ["--only", "Report:rowBytes"])
+            lines, well = self.results(root, ["--only", "Report:row_bytes"])
         self.assertFalse(well)
         self.assertIn(" 0 noticed, ", lines[-1])
 

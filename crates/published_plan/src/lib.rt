@@ -7,14 +7,13 @@
 // - where its pairs begin among the bytes of the rows, and how many bytes they are; neither is 10, which ends a line.
 #![tactic(auto)]
 
-ghost use Rattle.std.specs.Prelude.{◌≡◌, IfOk};
+ghost use Rattle.std.specs.Prelude.{◌≡◌};
 ghost use Rattle.published_plan.specs.PlanLines.{lines_in};
 
 use published::states::row_three;
 use published_lines::part;
 use published_show::{show_check, show_rest, show_run, show_title};
 use slices::byte_at;
-use std::io;
 use table_facts::PAIRS;
 
 // What a line shows below its title; answers the state that it leaves.
@@ -24,19 +23,19 @@ fn show_below<P: Print>(
     table: &[u8],
     start: [u8; PAIRS],
     pairs: &[u8],
-) -> io::Result<[u8; PAIRS]> {
+) -> [u8; PAIRS] {
     match what {
         b'r' => show_run(rt, table, start, pairs),
         b'e' => {
-            let heard = show_run(rt, table, start, pairs)?;
-            show_rest(rt, table, heard)?;
-            Ok(heard)
+            let heard = show_run(rt, table, start, pairs);
+            show_rest(rt, table, heard);
+            heard
         }
         b'c' => {
-            show_check(rt, table)?;
-            Ok(start)
+            show_check(rt, table);
+            start
         }
-        _ => Ok(start),
+        _ => start,
     }
 }
 
@@ -46,9 +45,9 @@ fn show_line<P: Print>(
     table: &[u8],
     rows: &[u8],
     start: [u8; PAIRS],
-) -> io::Result<[u8; PAIRS]> {
+) -> [u8; PAIRS] {
     let pairs = part(rows, byte_at(line, 2) as usize, byte_at(line, 3) as usize);
-    show_title(rt, part(line, 4, line.len()), pairs)?;
+    show_title(rt, part(line, 4, line.len()), pairs);
     show_below(rt, byte_at(line, 1), table, start, pairs)
 }
 
@@ -67,9 +66,9 @@ fn start_of(which: u8, before: [u8; PAIRS], left: [u8; PAIRS]) -> [u8; PAIRS] {
 }
 
 // Shows each line of the plan when its end is reached. No contract can say what is written to standard output, so this
-// one says what is answered, unless a write fails: how many lines the plan has.
-pub fn show_example<P: Print>(rt: &P, plan: &[u8], table: &[u8], rows: &[u8]) -> io::Result<usize>
-    ensures { IfOk result (λ lines. lines ≡ lines_in plan.now) }
+// one says what is answered: how many lines the plan has.
+pub fn show_example<P: Print>(rt: &P, plan: &[u8], table: &[u8], rows: &[u8]) -> usize
+    ensures { result ≡ lines_in plan.now }
 {
     let mut before = nothing_heard();
     let mut left = before;
@@ -80,7 +79,7 @@ pub fn show_example<P: Print>(rt: &P, plan: &[u8], table: &[u8], rows: &[u8]) ->
         if plan[k] == b'\n' {
             let line = part(plan, first, k - first);
             let start = start_of(byte_at(line, 0), before, left);
-            let after = show_line(rt, line, table, rows, start)?;
+            let after = show_line(rt, line, table, rows, start);
             before = start;
             left = after;
             first = k + 1;
@@ -88,5 +87,5 @@ pub fn show_example<P: Print>(rt: &P, plan: &[u8], table: &[u8], rows: &[u8]) ->
         }
         k += 1;
     }
-    Ok(lines)
+    lines
 }

@@ -5,10 +5,9 @@
 use published::rows::{bad_gadget_rounds, bleedin_edge_rows, di_safe_gree_rows, disagree_rows};
 use published::tables::{bad_gadget, bleedin_edge, di_safe_gree, disagree};
 use published_plan::show_example;
-use std::io;
 
 // Row 2 of Table 2 needs its two pairs at one moment; one by one they end in a stable state of Table 3.
-fn show_disagree(rt: &HostRuntime) -> io::Result<()> {
+fn show_disagree(rt: &HostRuntime) {
     show_example(
         rt,
         b"0c\x00\x00DISAGREE of 001: Figure 1b, Tables 2 and 3, one by one\n\
@@ -18,11 +17,10 @@ fn show_disagree(rt: &HostRuntime) -> io::Result<()> {
           .e\x04\x04row 2, 1 first, pairs\n",
         &disagree(),
         &disagree_rows(),
-    )?;
-    Ok(())
+    );
 }
 
-fn show_bad_gadget(rt: &HostRuntime) -> io::Result<()> {
+fn show_bad_gadget(rt: &HostRuntime) {
     show_example(
         rt,
         b"0c\x00\x00BAD GADGET of 001: Figure 1a, by its well-known lists\n\
@@ -31,13 +29,12 @@ fn show_bad_gadget(rt: &HostRuntime) -> io::Result<()> {
           .e\x18\x0cround 3, pairs\n",
         &bad_gadget(),
         &bad_gadget_rounds(),
-    )?;
-    Ok(())
+    );
 }
 
 // Row 3 of Table 4 needs its two pairs at one moment: neither order of them one by one gives its state. From that state
 // the rows 4 to 9 follow one by one, and then row 2 again.
-fn show_bleedin_edge(rt: &HostRuntime) -> io::Result<()> {
+fn show_bleedin_edge(rt: &HostRuntime) {
     show_example(
         rt,
         b"0c\x00\x00BLEEDIN-EDGE of 001: Figure 3a, Tables 4 and 5\n\
@@ -59,11 +56,10 @@ fn show_bleedin_edge(rt: &HostRuntime) -> io::Result<()> {
           .e\x26\x14round, pairs\n",
         &bleedin_edge(),
         &bleedin_edge_rows(),
-    )?;
-    Ok(())
+    );
 }
 
-fn show_di_safe_gree(rt: &HostRuntime) -> io::Result<()> {
+fn show_di_safe_gree(rt: &HostRuntime) {
     show_example(
         rt,
         b"0c\x00\x00DI-SAFE-GREE of 001: Figure 3b, Table 6 and section 4\n\
@@ -72,13 +68,12 @@ fn show_di_safe_gree(rt: &HostRuntime) -> io::Result<()> {
           .e\x0c\x04then 2 3 0, pairs\n",
         &di_safe_gree(),
         &di_safe_gree_rows(),
-    )?;
-    Ok(())
+    );
 }
 
-fn main(rt: HostRuntime) -> io::Result<()> {
-    show_disagree(&rt)?;
-    show_bad_gadget(&rt)?;
-    show_bleedin_edge(&rt)?;
-    show_di_safe_gree(&rt)
+fn main(rt: HostRuntime) {
+    show_disagree(&rt);
+    show_bad_gadget(&rt);
+    show_bleedin_edge(&rt);
+    show_di_safe_gree(&rt);
 }

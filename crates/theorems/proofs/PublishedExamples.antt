@@ -61,7 +61,7 @@ computed =
       bleedin_passes = refl;
       di_safe_gree_passes = refl;
       disagree_draws = refl;
-      bad_gadget_orraws = refl;
+      bad_gadget_draws = refl;
       bleedin_draws = refl;
       di_safe_gree_draws = refl;
       row_three_long = refl;
@@ -143,7 +143,7 @@ disagree_only a stable =
 -- .. BAD GADGET has none, so no heard state rests, ..
 pub bad_gadget_none : (a : ℕ → Path) → Stable (paths_of bad_gadget_bytes) (present bad_gadget_bytes) a → ⊥
 bad_gadget_none a stable =
-    let found = stable_named bad_gadget_bytes 3 computed.bad_gadget_routers a stable [] computed.bad_gadget_orraws in
+    let found = stable_named bad_gadget_bytes 3 computed.bad_gadget_routers a stable [] computed.bad_gadget_draws in
     omega (arith, found.1)
 
 pub bad_gadget_restless : (heard : List ℕ) → Rests bad_gadget_bytes heard → ⊥

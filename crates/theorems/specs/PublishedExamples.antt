@@ -47,7 +47,7 @@ pub record Computed : Type 0 where
   pub di_safe_gree_passes : unstable di_safe_gree_bytes 3 (assigned di_safe_gree_stable) ≡ false
   -- .. and nothing else does
   pub disagree_draws : Only disagree_bytes 2 (disagree_first ∷ disagree_second ∷ [])
-  pub bad_gadget_orraws : Only bad_gadget_bytes 3 []
+  pub bad_gadget_draws : Only bad_gadget_bytes 3 []
   pub bleedin_draws : Only bleedin_edge_bytes 4 (bleedin_stable ∷ [])
   pub di_safe_gree_draws : Only di_safe_gree_bytes 3 (di_safe_gree_stable ∷ [])
   -- row 3's state is valid

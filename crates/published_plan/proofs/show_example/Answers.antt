@@ -5,7 +5,7 @@ use mathlib.Core.Path.{◌∙◌}
 use native.Mathlib.Omega.{arith}
 use Rattle.published_plan.specs.PlanLaws.{lines_none, line_ends, line_goes_on, lines_most, lines_all}
 use Rattle.published_plan.proofs.show_example.Goals as goal
-use Rattle.published_plan.proofs.show_example.Goals.{then-plan-k-eq10+in_ok-after, else-plan-k-eq10}
+use Rattle.published_plan.proofs.show_example.Goals.{then-plan-k-eq10, else-plan-k-eq10}
 
 pub loop-k-init : goal.loop-k-init
 loop-k-init g c = (omega arith, omega arith, lines_none _)
@@ -19,7 +19,7 @@ pub loop-k-preserved : goal.loop-k-preserved
 loop-k-preserved g c =
     let l = c.loop-k in
     elim c.if-plan-k-eq10.branch [
-      | then-plan-k-eq10+in_ok-after w ↦ (omega arith, omega arith, w.lines-is ∙ line_ends _ l.k _ l.invariant.2 w.if-plan-k-eq10.true)
+      | then-plan-k-eq10 w ↦ (omega arith, omega arith, w.lines-is ∙ line_ends _ l.k _ l.invariant.2 w.if-plan-k-eq10.true)
       | else-plan-k-eq10 w ↦ (omega arith, omega arith, w.lines-is ∙ line_goes_on _ l.k _ l.invariant.2 w.if-plan-k-eq10.false)
     ]
 
