@@ -1,1 +1,3 @@
+#![tactic(auto)]
+
 // What the check and the runs promise together, by their contracts alone: see specs/.
