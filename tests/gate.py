@@ -28,8 +28,8 @@ MISFITS = (
     "was not admitted",
     "a dimension (`0`, `1` or an interval variable) is expected here",
 )
-# What rt ci says of an edit, and where the first error that shows a fact stands. After "refused, as it must be" it has a reason in
-# brackets where no fact was shown.
+# What rt ci says of an edit, and where the first error that shows a fact stands. After "refused, as it must be" it has a
+# reason in brackets where no fact was shown.
 EDIT = re.compile(r"^rt: must-fail (\S+)\.edit: (.*)$")
 REFUSED = "refused, as it must be: "
 # Where an example of the rules stands.
@@ -102,12 +102,13 @@ def run_rt_ci():
 
 
 def judge_rt_ci(status, text):
-    """Takes the counts of rt's own last line; whatever its counts, it fails with a status other than 0, without the line of a run that
-    passed, and where that line counts an edit that is bad."""
+    """Takes the counts of rt's own last line; whatever its counts, it fails with a status other than 0, without the line of
+    a run that passed, and where that line counts an edit that is bad."""
     lines = text.splitlines()
     counts = COUNTS.fullmatch(lines[-1]) if lines else None
     passed, failed = map(int, counts.groups()) if counts else (0, 0)
-    names = [name for line in lines if line.startswith("rt: FAILED:") for name in FAILED.findall(line.removeprefix("rt: FAILED:"))]
+    told = [line.removeprefix("rt: FAILED:") for line in lines if line.startswith("rt: FAILED:")]
+    names = [name for line in told for name in FAILED.findall(line)]
     failures = [f"rt ci: {rt_reason(name, lines)}" for name in names]
     failures += [f"rt ci: a failure that it does not name; {last_words(lines)}"] * (failed - len(failures))
     if (status != 0 or not counts) and not failures:
@@ -141,7 +142,7 @@ def judge_edits(root, text):
     counts = Counts(0, [])
     for edit in sorted(path for path in root.glob("crates/*/must-fail/**/*") if path.is_file()):
         _, crate, _, *label = edit.relative_to(root).parts
-        # For rt a file with another ending or in a folder below is no edit that it tries, so it says nothing of one of that name.
+        # For rt a file with another ending or in a folder below is no edit that it tries, so it says nothing of it.
         name = "/".join([crate, *label]).removesuffix(".edit")
         fault = edit_fault(told.get(name) if edit.suffix == ".edit" else None, crate)
         counts = counts.plus(Counts(0, [f"must-fail {name}: {fault}"]) if fault else Counts(1, []))
@@ -149,7 +150,8 @@ def judge_edits(root, text):
 
 
 def edit_fault(said, crate):
-    """What is wrong with what rt says of an edit, or nothing. In `rules` an example must notice, and not the definitions themselves."""
+    """What is wrong with what rt says of an edit, or nothing. In `rules` an example must notice, and not the definitions
+    themselves."""
     if said is None:
         return "rt ci does not say that it was refused"
     if not said.startswith(REFUSED):

@@ -53,7 +53,7 @@ def begins_one(name, known):
 
 
 def missing_files(spans):
-    """The spans that look like a file and are none, from the root, from `crates/` or in the `specs/` or `proofs/` of any crate."""
+    """The spans that look like a file and are none, from the root, from `crates/` or in `specs/` or `proofs/` of a crate."""
     files = [span for span in spans if FILE.fullmatch(span)]
     return [file for file in files if not any(place(file))]
 

@@ -106,8 +106,9 @@ class Building(unittest.TestCase):
         self.source = self.home / "crates/a/src/lib.rt"
         self.source.parent.mkdir(parents=True)
         (self.home / "crates.txt").write_text("a:\n")
-        stored = {"check_program/stdin": "a table", "check_program/stdout": "a check\n", "run_program/args": "table\nanother word\n"}
-        stored |= {"run_program/data/table": "a table", "run_program/stdout": "a run\n", "reefsplice/src/lib.rt": ""}
+        stored = {"check_program/stdin": "a table", "check_program/stdout": "a check\n", "reefsplice/src/lib.rt": ""}
+        stored |= {"run_program/args": "table\nanother word\n", "run_program/data/table": "a table"}
+        stored |= {"run_program/stdout": "a run\n"}
         for name, text in stored.items():
             (self.home / "crates" / name).parent.mkdir(parents=True, exist_ok=True)
             (self.home / "crates" / name).write_text(text)
@@ -118,7 +119,7 @@ class Building(unittest.TestCase):
         (self.tools / "rt").chmod(0o755)
 
     def call(self, *words, source=None, tools=True):
-        """Gives the status, the text, and whether rt was called for it; what rt says is kept, and shown where it fails."""
+        """Gives the status, the text, and whether rt was called for it; what it says is kept, and shown where it fails."""
         if source:
             self.source.write_text(source)
         path = f"{self.tools}:{os.environ['PATH']}" if tools else os.defpath

@@ -59,14 +59,16 @@ class Edits(Folder):
 
     def test_a_misfit_that_rt_tells_is_named(self):
         self.write("crates/reader/must-fail/weak.edit", "")
-        for words in (f"(only because a proof file names what the edit took away, so ..): {MISFIT}", "(only by a limit ..): x: error: y"):
+        of_a_name = f"(only because a proof file names what the edit took away, so ..): {MISFIT}"
+        for words in (of_a_name, "(only by a limit ..): x: error: y"):
             counts = gate.judge_edits(self.root, f"rt: must-fail reader/weak.edit: refused, as it must be {words}\n")
             self.assertEqual((counts.passed, len(counts.failures)), (0, 1))
             self.assertIn("no fact was seen to fail", counts.failures[0])
 
     def test_an_edit_that_is_not_refused(self):
         self.write("crates/reader/must-fail/weak.edit", "")
-        for words in (f"BAD EDIT: it changes nothing: {GOOD}", f"NOT TRIED: its check was killed: {GOOD}", "NOT REFUSED: the crate is proved"):
+        bad, untried = f"BAD EDIT: it changes nothing: {GOOD}", f"NOT TRIED: its check was killed: {GOOD}"
+        for words in (bad, untried, "NOT REFUSED: the crate is proved"):
             counts = gate.judge_edits(self.root, f"rt: must-fail reader/weak.edit: {words}\n")
             self.assertEqual(counts, (0, [f"must-fail reader/weak: no fact was seen to fail: {words}"], ()))
 
@@ -83,9 +85,8 @@ class Edits(Folder):
         self.assertEqual(self.judged("logic=not-proved").failures, failures)
 
     def test_a_definition_is_refused_at_an_example(self):
-        example, definition, law = (
-            f"{file}.antt:9:1: error: `x`: the two types differ" for file in ("proofs/RunExamples", "specs/Run", "proofs/RunLaws")
-        )
+        files = ("proofs/RunExamples", "specs/Run", "proofs/RunLaws")
+        example, definition, law = (f"{file}.antt:9:1: error: `x`: the two types differ" for file in files)
         elsewhere = ["must-fail rules/weak: it is refused elsewhere than at an example"]
         self.assertEqual(self.judged(example, crate="rules").failures, [])
         self.assertEqual(self.judged(definition, crate="rules").failures, elsewhere)
@@ -100,7 +101,8 @@ class Edits(Folder):
     def test_each_edit_counts(self):
         self.write("crates/reader/must-fail/weak.edit", "")
         self.write("crates/reader/must-fail/other.edit", "")
-        told = [f"rt: must-fail reader/{label}.edit: refused, as it must be: {said}\n" for label, said in (("weak", GOOD), ("other", MISFIT))]
+        pairs = (("weak", GOOD), ("other", MISFIT))
+        told = [f"rt: must-fail reader/{label}.edit: refused, as it must be: {said}\n" for label, said in pairs]
         counts = gate.judge_edits(self.root, "".join(told))
         self.assertEqual((counts.passed, len(counts.failures)), (1, 1))
 
@@ -181,8 +183,8 @@ class RtCi(unittest.TestCase):
         self.assertEqual(gate.judge_rt_ci(0, text), (3, [f"rt ci: bad must-fail edits: {line}"], ()))
 
     def test_failures_are_named(self):
-        said = ["rules NOT PROVED", "must-fail lists/x.edit: NOT REFUSED: it is still proved", "run_program: it ended with status 1"]
-        said += ["words: its tests FAILED"]
+        said = ["rules NOT PROVED", "must-fail lists/x.edit: NOT REFUSED: it is still proved"]
+        said += ["run_program: it ended with status 1", "words: its tests FAILED"]
         names = "rules lists/x.edit run_program (run) words (tests)"
         text = "".join(f"rt: {line}\n" for line in [*said, f"FAILED: {names}"]) + "4 passed, 4 failed\n"
         self.assertEqual(gate.judge_rt_ci(1, text), (4, [f"rt ci: {line}" for line in said], ()))

@@ -217,12 +217,14 @@ class LaidOut(Folder):
 
     def test_the_definitions_and_the_examples(self):
         lists = [f"crates/lists/specs/{name}" for name in mutate.LISTS]
-        rules = ["src/lib.rt", "specs/Lib.antt", "specs/Table.antt", "specs/RunExamples.antt", "proofs/RunExamples.antt", "proofs/f/Answers.antt"]
-        rules = [f"crates/rules/{name}" for name in rules]
-        other = ["crates/lists/src/lib.rt", "crates/lists/specs/Laws.antt", "crates/lists/proofs/f/Answers.antt", "crates/rules/out/x"]
-        found = self.laid(*lists, *rules, *other, "crates/rules/must-fail/x.edit", "crates/laws/specs/Laws.antt")
+        rules = ["src/lib.rt", "specs/Lib.antt", "specs/Table.antt", "specs/RunExamples.antt"]
+        rules = [f"crates/rules/{name}" for name in [*rules, "proofs/RunExamples.antt", "proofs/f/Answers.antt"]]
+        other = ["lists/src/lib.rt", "lists/specs/Laws.antt", "lists/proofs/f/Answers.antt", "laws/specs/Laws.antt"]
+        other = [f"crates/{name}" for name in [*other, "rules/must-fail/x.edit", "rules/out/x"]]
+        found = self.laid(*lists, *rules, *other)
         self.assertEqual({name for name, text in found.items() if text == f"{name}\n"}, {*lists, *rules})
-        self.assertEqual(found.keys() - {*lists, *rules}, {"crates.txt", "crates/lists/specs/Lib.antt", "crates/lists/src/lib.rt"})
+        made = {"crates.txt", "crates/lists/specs/Lib.antt", "crates/lists/src/lib.rt"}
+        self.assertEqual(found.keys() - {*lists, *rules}, made)
         self.assertEqual(found["crates/lists/src/lib.rt"], mutate.EMPTY)
         self.assertEqual(found["crates/lists/specs/Lib.antt"], "pub mod Search\npub mod Fill\npub mod Fold\n")
 
@@ -458,7 +460,8 @@ class Project(unittest.TestCase):
         with tempfile.TemporaryDirectory() as holder:
             root = Path(holder)
             for crate in mutate.CRATES:
-                shutil.copytree(mutate.ROOT / "crates" / crate, root / "crates" / crate, ignore=shutil.ignore_patterns("out", "proofs"))
+                left = shutil.ignore_patterns("out", "proofs")
+                shutil.copytree(mutate.ROOT / "crates" / crate, root / "crates" / crate, ignore=left)
             for path in (root / "crates" / "rules" / "specs").glob("*Examples.antt"):
                 path.write_text("-- No example.\n", encoding="utf-8")
             (root / "crates" / "rules" / "src" / "lib.rt").write_text(mutate.EMPTY, encoding="utf-8")
