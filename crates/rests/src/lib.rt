@@ -9,7 +9,7 @@ ghost use Rattle.pairs.specs.SlotPaths.{slot_paths, held_in, slotted};
 ghost use Rattle.rests.specs.Rests.{asked_for, asked_row};
 
 use record_fields::path_at;
-use slices::{byte_at, same_parts};
+use slices::{same_parts, value_or};
 use table_facts::{NO_RECORD, slots_of};
 
 // The place of a path among those of a row of slots, from 1; 0 where it is not there.
@@ -42,7 +42,7 @@ fn asked_byte(table: &[u8], slots: &[[u16; 16]; 64], path: &[u8]) -> u8
     ensures { result ≡ asked_for (held_in table.now slots.now) path.now }
 {
     let rest = rest_of(path);
-    let u = usize::from(byte_at(path, 1));
+    let u = usize::from(value_or(path, 1, 0));
     if u == 0 {
         return u8::from(same_parts(rest, b"\0"));
     }
@@ -71,5 +71,9 @@ pub fn asked_bytes(table: &[u8]) -> [[u8; 16]; 64]
     ensures { result ≡ tabulate (λ v. asked_row (slotted table.now) (slotted table.now v)) 64 }
 {
     let slots = slots_of(table);
-    slots.map(|row| asked_row(table, &slots, row))
+    let mut asked = [[0; 16]; 64];
+    for (v, row) in slots.iter().enumerate() {
+        asked[v] = asked_row(table, &slots, *row);
+    }
+    asked
 }

@@ -1,11 +1,12 @@
 // What the steps of a run count, for any numbers: the movement, ups, downs, the last change, and the rounds.
 #![tactic(auto)]
 
-ghost use Rattle.std.specs.Prelude.{◌≡◌, get_or, set};
+ghost use Rattle.std.specs.Prelude.{◌≡◌};
 ghost use Rattle.rules.specs.Machine.{standing_of};
 ghost use Rattle.tally.specs.Counting.{moved, CountedStep};
 ghost use Rattle.tally.specs.Stamps.{Activated};
 
+use slices::{put_at, value_or};
 use std::cmp::Ordering;
 
 // What a rank is taken from.
@@ -62,26 +63,6 @@ impl Counts {
     }
 }
 
-// The stamp at a place; past the end it is 0.
-fn stamp_at(stamps: &[u16], at: usize) -> u16
-    ensures { result ≡ get_or stamps.now at 0 }
-{
-    if stamps.len() <= at {
-        return 0;
-    }
-    stamps[at]
-}
-
-// Stamps a place, where there is one.
-fn stamp(stamps: &mut [u16], at: usize, number: u16)
-    ensures { stamps.new ≡ set stamps.old at number }
-{
-    if stamps.len() <= at {
-        return;
-    }
-    stamps[at] = number;
-}
-
 // The rounds closed, how many listening pairs are missing in the open one, and how many there are.
 #[derive(Clone, Copy)]
 pub struct Rounds {
@@ -97,8 +78,8 @@ impl Rounds {
         ensures all { self.new.all ≡ self.old.all }
     {
         let number = self.closed.saturating_add(1);
-        let is_new = stamp_at(stamps, at) != number;
-        stamp(stamps, at, number);
+        let is_new = value_or(stamps, at, 0) != number;
+        put_at(stamps, at, number);
         self.missing = self.missing.saturating_sub(u16::from(is_new));
         if self.missing == 0 {
             self.closed = number;

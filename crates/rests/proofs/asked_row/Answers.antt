@@ -13,7 +13,7 @@ loop-k-init c = filled_none (omega arith)
 pub loop-k-preserved : goal.loop-k-preserved
 loop-k-preserved c =
     filled_to_more c.loop-k.invariant _ (omega arith) c.if-i.false
-        (c.asked_byte.ensures ∙ ap (asked_for (held_in _ _)) (c.path_at.ensures ∙ ap (path_at _) c.from.ensures))
+    (c.asked_byte.ensures ∙ ap (asked_for (held_in _ _)) (c.path_at.ensures ∙ ap (path_at _) c.from.ensures))
 
 pub returns-after-loop-k : goal.returns-after-loop-k
 unfolding asked_row

@@ -15,10 +15,10 @@ returns-then-same_parts c =
     (sym c.same_parts.ensures ∙ c.if-same_parts.true)
 
 pub loop-k-preserved : goal.loop-k-preserved
-loop-k-preserved c = 
-  scanned_next c.loop-k.invariant _ (omega arith) c.if-i.false
-      (c.path_at.ensures ∙ ap (path_at _) c.from.ensures)
-      (sym c.same_parts.ensures ∙ c.if-same_parts.false)
+loop-k-preserved c =
+    scanned_next c.loop-k.invariant _ (omega arith) c.if-i.false
+    (c.path_at.ensures ∙ ap (path_at _) c.from.ensures)
+    (sym c.same_parts.ensures ∙ c.if-same_parts.false)
 
 pub returns-then-i : goal.returns-then-i
 returns-then-i c = place_empty c.loop-k.invariant (omega arith) c.if-i.true
