@@ -102,7 +102,8 @@ pub(crate) fn rank_bad(table: &[u8], i: usize) -> bool
 // field.
 fn alone(table: &[u8], i: usize) -> &[u8]
     requires { i < records table.now }
-    ensures { result.now ≡ record_at table.now i }
+    ensures there { 0 < records result.now }
+    ensures same { record_at result.now 0 ≡ record_at table.now i }
 {
     let at = i * RECORD_BYTES;
     let end = at + RECORD_BYTES;
@@ -137,6 +138,7 @@ pub(crate) fn path_bad(table: &[u8], i: usize) -> bool
 }
 
 // The first rule that record i breaks, if it breaks one.
+#[tactic(auto, using(crate::specs::FaultLaws::fault_by_rules))]
 pub(crate) fn fault_of(table: &[u8], i: usize) -> Result<(), Rule>
     requires { (i < records table.now) × Orderly table.now i }
     ensures { fault_in result ≡ fault table.now i }
