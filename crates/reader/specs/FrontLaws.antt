@@ -37,10 +37,6 @@ module _ (t : List ℕ) (i : ℕ) {r : List ℕ} (e : r ≡ record_at t i) where
   unfolding record_at
   alone_record = rw e (take-take 16 16 (drop (16 * i) t) (omega arith))
 
-  -- what is read of the record alone is read of record i
-  pub alone_gives : {B : Type 0} (f : List ℕ → B) {x : B} → x ≡ f (record_at r 0) → x ≡ f (record_at t i)
-  alone_gives f q = q ∙ ap f alone_record
-
   pub alone_there : i < records t → 0 < records r
   unfolding records
   alone_there h = omega (arith, ap length e, record_length t i h)

@@ -1,10 +1,12 @@
--- What the reader's answer tells: the refusal.
-use Rattle.std.specs.Prelude.{◌≡◌, Result, Ok, Err}
+-- What the reader's answer tells: the refusal; and the refusal tells the answer.
+use Rattle.std.specs.Prelude.{◌≡◌, refl, Result, Ok, Err}
 use Rattle.std.proofs.Common.{sym, ◌∙◌, ap}
 use Rattle.std.proofs.Math.Option.{Option, none, some}
+use Rattle.lists.specs.Tests.{impossible}
 use Rattle.rules.specs.Refusals as rules
 use Rattle.answer.specs.declared.Refusal.{Refusal}
-use Rattle.answer.specs.Refused.{refused_in}
+use Rattle.answer.specs.Refused.{told, refused_in}
+use Rattle.answer.specs.RefusedLaws.{told_tells}
 
 -- different refusals get different answers
 pub reading_tells : {A : Type 0} (x y : Result A Refusal) (a b : Option rules.Refusal)
@@ -23,3 +25,13 @@ pub reading_refused : (A : Type 0) (r : Refusal) (o : Option rules.Refusal)
     → refused_in {A = A} (Err r) ≡ o
     → o ≡ some (record { number = r.number; place = r.place })
 reading_refused A r o e = sym e
+
+-- and a reading is told by its refusal
+
+pub accepted_told : {A : Type 0} (a : Result A Refusal) → refused_in a ≡ none → (table : A) × (a ≡ Ok table)
+accepted_told (Ok table) e = (table, refl)
+accepted_told (Err r) e = impossible cc
+
+pub refused_told : {A : Type 0} (a : Result A Refusal) (r : Refusal) → refused_in a ≡ some (told r) → a ≡ Err r
+refused_told (Ok table) r e = impossible cc
+refused_told {A} (Err s) r e = λ i. Err (told_tells s r e i)

@@ -8,7 +8,7 @@ ghost use Rattle.reader.specs.Fault.{fault_in};
 
 use answer::Rule;
 use record_fields::{RECORD_BYTES, hops_at, owner_at, path_at, rank_at, record_at};
-use slices::{any_outside, byte_at, has_twice, is_outside, same_parts};
+use slices::{any_outside, has_twice, is_outside, same_parts, value_or};
 
 const MOST_HOPS: u8 = 12;
 
@@ -61,7 +61,7 @@ pub(crate) fn last_bad(table: &[u8], i: usize) -> bool
     ensures { result ≡ last_bad (record_at table.now i) }
 {
     let last = usize::from(hops_at(table, i)) + 2;
-    is_outside(0, 0, byte_at(record_at(table, i), last))
+    is_outside(0, 0, value_or(record_at(table, i), last, 0))
 }
 
 // Refusal 9.
@@ -102,7 +102,8 @@ pub(crate) fn rank_bad(table: &[u8], i: usize) -> bool
 // field.
 fn alone(table: &[u8], i: usize) -> &[u8]
     requires { i < records table.now }
-    ensures { result.now ≡ record_at table.now i }
+    ensures there { 0 < records result.now }
+    ensures same { record_at result.now 0 ≡ record_at table.now i }
 {
     let at = i * RECORD_BYTES;
     let end = at + RECORD_BYTES;
@@ -137,6 +138,7 @@ pub(crate) fn path_bad(table: &[u8], i: usize) -> bool
 }
 
 // The first rule that record i breaks, if it breaks one.
+#[tactic(auto, using(crate::specs::FaultLaws::fault_by_rules))]
 pub(crate) fn fault_of(table: &[u8], i: usize) -> Result<(), Rule>
     requires { (i < records table.now) × Orderly table.now i }
     ensures { fault_in result ≡ fault table.now i }

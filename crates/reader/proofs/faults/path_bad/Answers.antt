@@ -5,12 +5,12 @@ use Prim.Native.Nat.{ℕ, ◌+◌}
 use native.Mathlib.Omega.{arith}
 use Rattle.rules.specs.Table.{records, hops_of, rank_of}
 use Rattle.laws.specs.TableLaws.{block_fits, block_start, path_hit, path_next, path_end}
-use Rattle.reader.specs.FrontLaws.{alone_gives, front_same}
+use Rattle.reader.specs.FrontLaws.{front_same}
 use Rattle.reader.proofs.faults.path_bad.Goals as goal
 
 pub front_at-path-requires : goal.front_at-path-requires
 front_at-path-requires c =
-    let hops = alone_gives _ _ c.alone-r.ensures hops_of (c.from-count.ensures ∙ c.hops_at.ensures) in
+    let hops = c.from-count.ensures ∙ c.hops_at.ensures ∙ ap hops_of c.alone-r.ensures.same in
     (c.requires.0, omega arith)
 
 pub overflow_add-first : goal.overflow_add-first
@@ -19,24 +19,24 @@ overflow_add-first c = omega arith
 
 pub overflow_sub-first : goal.overflow_sub-first
 overflow_sub-first c =
-    let rank = alone_gives _ _ c.alone-r.ensures rank_of (c.from.ensures ∙ c.rank_at.ensures) in
+    let rank = c.from.ensures ∙ c.rank_at.ensures ∙ ap rank_of c.alone-r.ensures.same in
     (block_fits _ _ c.requires.2 _ rank).1
 
 pub loop-j-init : goal.loop-j-init
 loop-j-init c =
     block_start _ _ c.requires.2 _
-    (alone_gives _ _ c.alone-r.ensures rank_of (c.from.ensures ∙ c.rank_at.ensures))
+    (c.from.ensures ∙ c.rank_at.ensures ∙ ap rank_of c.alone-r.ensures.same)
 
 pub front_at-requires : goal.front_at-requires
 front_at-requires c =
-    let hops = alone_gives _ _ c.alone-r.ensures hops_of (c.from-count.ensures ∙ c.hops_at.ensures) in
-    let rank = alone_gives _ _ c.alone-r.ensures rank_of (c.from.ensures ∙ c.rank_at.ensures) in
+    let hops = c.from-count.ensures ∙ c.hops_at.ensures ∙ ap hops_of c.alone-r.ensures.same in
+    let rank = c.from.ensures ∙ c.rank_at.ensures ∙ ap rank_of c.alone-r.ensures.same in
     let fits = block_fits _ _ c.requires.2 _ rank in
     (omega arith, omega arith)
 
 pub returns-then-same_parts : goal.returns-then-same_parts
 returns-then-same_parts c =
-    let hops = alone_gives _ _ c.alone-r.ensures hops_of (c.from-count.ensures ∙ c.hops_at.ensures) in
+    let hops = c.from-count.ensures ∙ c.hops_at.ensures ∙ ap hops_of c.alone-r.ensures.same in
     let looked =
     front_same _ c.requires.0 c.loop-j-test.true c.requires.1 (ap (λ (h : ℕ). h + 2) hops)
     c.front_at.ensures c.front_at-path.ensures c.same_parts.ensures
@@ -45,7 +45,7 @@ returns-then-same_parts c =
 
 pub loop-j-preserved : goal.loop-j-preserved
 loop-j-preserved c =
-    let hops = alone_gives _ _ c.alone-r.ensures hops_of (c.from-count.ensures ∙ c.hops_at.ensures) in
+    let hops = c.from-count.ensures ∙ c.hops_at.ensures ∙ ap hops_of c.alone-r.ensures.same in
     let looked =
     front_same _ c.requires.0 c.loop-j-test.true c.requires.1 (ap (λ (h : ℕ). h + 2) hops)
     c.front_at.ensures c.front_at-path.ensures c.same_parts.ensures
@@ -54,6 +54,6 @@ loop-j-preserved c =
 
 pub returns : goal.returns
 returns c =
-    let rank = alone_gives _ _ c.alone-r.ensures rank_of (c.from.ensures ∙ c.rank_at.ensures) in
+    let rank = c.from.ensures ∙ c.rank_at.ensures ∙ ap rank_of c.alone-r.ensures.same in
     let fits = block_fits _ _ c.requires.2 _ rank in
     path_end _ _ c.loop-j.j c.loop-j.invariant (omega arith) (omega arith)
