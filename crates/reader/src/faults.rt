@@ -8,7 +8,7 @@ ghost use Rattle.reader.specs.Fault.{fault_in};
 
 use answer::Rule;
 use record_fields::{RECORD_BYTES, hops_at, owner_at, path_at, rank_at, record_at};
-use slices::{any_outside, byte_at, has_twice, is_outside, same_parts};
+use slices::{any_outside, has_twice, is_outside, same_parts, value_or};
 
 const MOST_HOPS: u8 = 12;
 
@@ -61,7 +61,7 @@ pub(crate) fn last_bad(table: &[u8], i: usize) -> bool
     ensures { result ≡ last_bad (record_at table.now i) }
 {
     let last = usize::from(hops_at(table, i)) + 2;
-    is_outside(0, 0, byte_at(record_at(table, i), last))
+    is_outside(0, 0, value_or(record_at(table, i), last, 0))
 }
 
 // Refusal 9.

@@ -7,4 +7,4 @@ use Rattle.reader.proofs.faults.last_bad.Goals as goal
 pub returns : goal.returns
 returns c =
     last_seen c.record_at.ensures (c.from-last.ensures ∙ c.hops_at.ensures)
-    c.byte_at.ensures c.is_outside.ensures
+    c.value_or.ensures c.is_outside.ensures
