@@ -29,7 +29,8 @@ fn put_numbers(writer: &mut Writer<'_>, answer: RunAnswer)
     writer.put(b"\n");
 }
 
-// The record of a rank among a vertex's slots; rank 0 and ranks past the slots have 65,535, which `shown_line` looks up.
+// The record of a rank among a vertex's slots. Rank 0 and ranks past the slots have 65,535, and not None, since
+// `shown_line` has the path at that record there.
 fn ranked_record(slots: &[u16; SLOTS], rank: u8) -> u16
     ensures { result ≡ ranked_record slots.now rank }
 {

@@ -14,7 +14,7 @@ const ZERO: u8 = 48;
 const DIGITS: usize = 10;
 
 // Writes the decimal digits of a number to the end of a buffer, the last ten at most, and answers the place of the first.
-// They are written by hand since `write!` promises its text only with an Ok, which no contract promises.
+// By hand, since `write!` promises its text only with an Ok, which no contract promises, and std's `decimal` has them all.
 fn write_digits(digits: &mut [u8; DIGITS], n: usize) -> usize
     ensures inside { result ≤ 10 }
     ensures digits { drop result digits.new ≡ decimal n }
@@ -101,12 +101,13 @@ impl Writer<'_> {
     fn place(&mut self, number: u8, place: usize)
         ensures { Writes (place_words number place) self.old self.new }
     {
-        match number {
-            4..=11 => self.labelled(b" record ", place),
-            12 => self.labelled(b" offset ", place),
-            14 => self.labelled(b" pair ", place),
-            _ => {}
-        }
+        let word: &[u8] = match number {
+            4..=11 => b" record ",
+            12 => b" offset ",
+            14 => b" pair ",
+            _ => return,
+        };
+        self.labelled(word, place);
     }
 
     // `refused 9 record 2`, or `refused 3`.

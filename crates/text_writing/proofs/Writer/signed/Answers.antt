@@ -12,7 +12,7 @@ returns c =
     let size = c.unsigned_abs.ensures.value in
     elim c.if-n-lt0.branch [
       | then-n-lt0 w ↦
-          writes_as (writes_then (rw (← w.self-is) at w.put.ensures) c.number.ensures)
+          writes_as (writes_then w.put.ensures (rw w.self-is at c.number.ensures))
           (signed_below _ _ c.ranges.n size w.if-n-lt0.true)
       | else-n-lt0 w ↦
           writes_as (rw w.self-is at c.number.ensures) (signed_plain _ _ c.ranges.n size w.if-n-lt0.false)
