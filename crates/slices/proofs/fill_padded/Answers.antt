@@ -1,21 +1,9 @@
--- `slices::fill_padded` meets its contract: below `at` stand the bytes, and 255 past their end.
+-- `slices::fill_padded` meets its contract: the bytes that fit stand in front, and 255 behind them.
 -- Assumes nothing.
-use mathlib.Core.Path.{refl, sym, ◌∙◌}
-use native.Mathlib.Omega.{arith}
-use lib.ListN.{length-set}
-use Rattle.lists.specs.FillLaws.{tabulate_none, fill_more, fill_end, padded_tabulate}
+use Rattle.slices.proofs.PartLaws.{filled_parts}
 use Rattle.slices.proofs.fill_padded.Goals as goal
-
-pub loop-at-init : goal.loop-at-init
-loop-at-init c = (omega arith, refl, sym (tabulate_none _))
-
-pub loop-at-preserved : goal.loop-at-preserved
-loop-at-preserved c = (
-  omega arith,
-  length-set c.loop-at.part c.loop-at.at _ ∙ c.loop-at.invariant.1,
-  fill_more _ _ _ c.loop-at.at _ c.loop-at.invariant.2 (omega arith) refl c.byte_or_255.ensures,
-)
 
 pub returns : goal.returns
 returns c =
-    fill_end _ _ _ _ c.loop-at.invariant.2 (sym c.loop-at.invariant.1) (omega arith) ∙ sym (padded_tabulate 255 _ _)
+    filled_parts c.args.part.now c.args.bytes.now _ _ _ c.min-front.ensures c.copy_from_slice.ensures.after
+    (c.fill.ensures.after (λ y e. e))

@@ -1,0 +1,2 @@
+-- What an array made by `array::from_fn` is.
+pub mod FromFn
