@@ -1,13 +1,13 @@
 // The compatibility judgement and one stage, for any bytes.
 #![tactic(auto)]
 
-ghost use Rattle.std.specs.Prelude.{◌≡◌, position, set, get_or};
+ghost use Rattle.std.specs.Prelude.{◌≡◌, position};
 ghost use Rattle.rules.specs.Greedy.{compatible};
 ghost use Rattle.judge.specs.Standing.{is_in, held_path, settled_by, first_compatible, enters_by, is_judged};
 ghost use Rattle.judge.specs.Staged.{Staged};
 
 use record_fields::{next_at, path_at};
-use slices::same_parts;
+use slices::{same_parts, value_or};
 
 // A mark below this one is the stage at which the vertex settled.
 pub const ABSENT: u8 = 254;
@@ -78,10 +78,12 @@ impl Standing {
     fn best_record(&self, table: &[u8], slots: [u16; 16]) -> Option<u16>
         ensures { result ≡ first_compatible table.now self.now.marks self.now.shown slots }
     {
-        slots.iter().copied().take_while(|i| *i != NO_RECORD).find(|i| self.is_compatible(
-            table,
-            path_at(table, usize::from(*i)),
-        ))
+        let passes = |i: &u16| self.is_compatible(table, path_at(table, usize::from(*i)));
+        slots
+            .iter()
+            .copied()
+            .take_while(|i| *i != NO_RECORD)
+            .find(passes)
     }
 
     // Whether a vertex with that best compatible path enters: it has none, or its next hop is settled.
@@ -111,14 +113,4 @@ pub fn stage(table: &[u8], slots: [[u16; 16]; 64], before: Standing, number: u8)
         }
     }
     after
-}
-
-// TODO
-fn value_or<T: Copy>(part: &[T], at: usize, other: T) -> T
-    ensures { result ≡ get_or part.now at other }
-{
-    if at < part.len() {
-        return part[at];
-    }
-    other
 }
