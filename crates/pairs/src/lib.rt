@@ -8,10 +8,9 @@ ghost use Rattle.pairs.specs.SlotPaths.{slot_paths, held_in, slotted};
 ghost use Rattle.pairs.specs.NextHops.{next_row, slot_to, leads_in, hears_from, listens_in};
 
 use record_fields::next_at;
-use slices::wide;
 use table_facts::{NO_RECORD, SLOTS, slots_of};
 
-// The next hop of an empty slot.
+// The next hop of an empty slot: a byte as the others, since `next_row` has 255 there and a row is 16 bytes.
 pub const NOBODY: u8 = 255;
 // The number of vertices.
 const VERTICES: u8 = 64;
@@ -21,14 +20,11 @@ fn next_row(table: &[u8], row: [u16; 16]) -> [u8; 16]
     ensures { result ≡ next_row (slot_paths table.now row) }
 {
     let mut nexts = [NOBODY; 16];
-    let mut k = 0;
-    while k < SLOTS {
-        let i = row[k];
-        if i == NO_RECORD {
+    for (k, i) in row.iter().enumerate() {
+        if *i == NO_RECORD {
             return nexts;
         }
-        nexts[k] = next_at(table, wide(i));
-        k += 1;
+        nexts[k] = next_at(table, *i as usize);
     }
     nexts
 }
@@ -38,10 +34,8 @@ pub fn next_rows(table: &[u8], slots: &[[u16; 16]; 64]) -> [[u8; 16]; 64]
     ensures { result ≡ tabulate (λ v. next_row (held_in table.now slots.now v)) 64 }
 {
     let mut nexts = [[NOBODY; 16]; 64];
-    let mut v = 0;
-    while v < 64 {
-        nexts[v] = next_row(table, slots[v]);
-        v += 1;
+    for (v, row) in slots.iter().enumerate() {
+        nexts[v] = next_row(table, *row);
     }
     nexts
 }
@@ -54,16 +48,14 @@ pub fn next_hops(table: &[u8]) -> [[u8; 16]; 64]
     next_rows(table, &slots)
 }
 
-// The first slot that leads to u, 16 where none does.
+// The first slot that leads to u, 16 where none does: a number, since callers compare it with the slots (`k <= ..`).
 pub fn slot_to(nexts: &[u8; 16], u: u8) -> usize
     ensures { result ≡ slot_to nexts.now u }
 {
-    let mut k = 0;
-    while k < SLOTS {
-        if nexts[k] == u {
+    for (k, next) in nexts.iter().enumerate() {
+        if *next == u {
             return k;
         }
-        k += 1;
     }
     SLOTS
 }
@@ -74,9 +66,7 @@ pub fn steady_slot_to(nexts: &[u8; 16], u: u8) -> usize
     ensures { result ≡ slot_to nexts.now u }
 {
     let mut slot = SLOTS;
-    let mut k = SLOTS;
-    while 0 < k {
-        k -= 1;
+    for k in (0..SLOTS).rev() {
         if nexts[k] == u {
             slot = k;
         }
@@ -88,10 +78,7 @@ pub fn steady_slot_to(nexts: &[u8; 16], u: u8) -> usize
 fn leads_to(nexts: &[u8; 16], u: u8) -> bool
     ensures { result ≡ leads_in nexts.now u }
 {
-    if VERTICES <= u {
-        return false;
-    }
-    slot_to(nexts, u) < SLOTS
+    u < VERTICES && slot_to(nexts, u) < SLOTS
 }
 
 // How many vertices the slots lead to: those that no slot before leads to are counted.
@@ -99,17 +86,10 @@ fn count_row(nexts: &[u8; 16]) -> u16
     ensures { result ≡ count_below (leads_in nexts.now) 64 }
 {
     let mut count = 0;
-    let mut k = 0;
-    while k < SLOTS {
-        let here = k;
-        k += 1;
-        if VERTICES <= nexts[here] {
-            continue;
+    for (k, u) in nexts.iter().enumerate() {
+        if *u < VERTICES && k <= slot_to(nexts, *u) {
+            count += 1;
         }
-        if slot_to(nexts, nexts[here]) < here {
-            continue;
-        }
-        count += 1;
     }
     count
 }
@@ -118,10 +98,7 @@ fn count_row(nexts: &[u8; 16]) -> u16
 pub fn is_listening(nexts: &[[u8; 16]; 64], v: u8, u: u8) -> bool
     ensures { result ≡ hears_from nexts.now v u }
 {
-    if VERTICES <= v {
-        return false;
-    }
-    leads_to(&nexts[v as usize], u)
+    v < VERTICES && leads_to(&nexts[v as usize], u)
 }
 
 // How many pairs listen.
@@ -129,10 +106,8 @@ pub fn count_pairs(nexts: &[[u8; 16]; 64]) -> u16
     ensures { result ≡ count_below (listens_in nexts.now) 4096 }
 {
     let mut count = 0;
-    let mut v = 0;
-    while v < 64 {
-        count += count_row(&nexts[v]);
-        v += 1;
+    for row in nexts {
+        count += count_row(row);
     }
     count
 }

@@ -5,7 +5,7 @@
 ghost use Rattle.std.specs.Prelude.{◌≡◌};
 ghost use Rattle.rules.specs.Table.{record_at, rank_at, hops_at, path_at, owner_at, next_hop};
 
-use slices::{at_most, byte_at};
+use slices::value_or;
 
 pub const RECORD_BYTES: usize = 16;
 
@@ -27,26 +27,26 @@ pub fn record_at(table: &[u8], i: usize) -> &[u8]
         return &table[..0];
     }
     let at = i * RECORD_BYTES;
-    let end = at_most(at + RECORD_BYTES, length);
+    let end = (at + RECORD_BYTES).min(length);
     &table[at..end]
 }
 
 pub fn rank_at(table: &[u8], i: usize) -> u8
     ensures { result ≡ rank_at table.now i }
 {
-    byte_at(record_at(table, i), RANK)
+    value_or(record_at(table, i), RANK, 0)
 }
 
 pub fn hops_at(table: &[u8], i: usize) -> u8
     ensures { result ≡ hops_at table.now i }
 {
-    byte_at(record_at(table, i), HOPS)
+    value_or(record_at(table, i), HOPS, 0)
 }
 
 pub fn owner_at(table: &[u8], i: usize) -> u8
     ensures { result ≡ owner_at table.now i }
 {
-    byte_at(record_at(table, i), PATH)
+    value_or(record_at(table, i), PATH, 0)
 }
 
 // The path of record i, whatever its hops say: it ends with the record at the latest.
@@ -58,7 +58,7 @@ pub fn path_at(table: &[u8], i: usize) -> &[u8]
     if length < PATH {
         return &r[..0];
     }
-    let end = at_most(hops_at(table, i) as usize + 3, length);
+    let end = (hops_at(table, i) as usize + 3).min(length);
     &r[PATH..end]
 }
 
@@ -66,5 +66,5 @@ pub fn path_at(table: &[u8], i: usize) -> &[u8]
 pub fn next_at(table: &[u8], i: usize) -> u8
     ensures { result ≡ next_hop (path_at table.now i) }
 {
-    byte_at(path_at(table, i), 1)
+    value_or(path_at(table, i), 1, 0)
 }

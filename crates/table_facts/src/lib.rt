@@ -6,7 +6,7 @@ ghost use Rattle.lists.specs.Fill.{tabulate};
 ghost use Rattle.rules.specs.Table.{records, longest, present, slots_of};
 
 use record_fields::{RECORD_BYTES, hops_at, owner_at, path_at};
-use slices::{at_most, larger, mark_all};
+use slices::mark_all;
 
 pub const VERTICES: usize = 64;
 
@@ -27,10 +27,8 @@ pub fn longest_hops(table: &[u8]) -> u8
 {
     let count = table.len() / RECORD_BYTES;
     let mut most = 0;
-    let mut i = 0;
-    while i < count {
-        most = larger(most, hops_at(table, i));
-        i += 1;
+    for i in 0..count {
+        most = most.max(hops_at(table, i));
     }
     most
 }
@@ -42,10 +40,8 @@ pub fn present_in(table: &[u8]) -> [bool; VERTICES]
     let count = table.len() / RECORD_BYTES;
     let mut named = [false; VERTICES];
     named[0] = true;
-    let mut i = 0;
-    while i < count {
+    for i in 0..count {
         mark_all(&mut named, path_at(table, i));
-        i += 1;
     }
     named
 }
@@ -54,14 +50,11 @@ pub fn present_in(table: &[u8]) -> [bool; VERTICES]
 pub fn slots_of(table: &[u8]) -> [[u16; SLOTS]; VERTICES]
     ensures { result ≡ slots_of table.now (min (records table.now) 1008) }
 {
-    let count = at_most(table.len() / RECORD_BYTES, MOST_RECORDS);
+    let count = (table.len() / RECORD_BYTES).min(MOST_RECORDS);
     let mut slots = [[NO_RECORD; SLOTS]; VERTICES];
     let mut used = [0usize; VERTICES];
-    let mut i = 0;
-    while i < count {
-        let here = i;
-        i += 1;
-        let v = owner_at(table, here) as usize;
+    for i in 0..count {
+        let v = owner_at(table, i) as usize;
         if VERTICES <= v {
             continue;
         }
@@ -69,7 +62,7 @@ pub fn slots_of(table: &[u8]) -> [[u16; SLOTS]; VERTICES]
         if SLOTS <= k {
             continue;
         }
-        slots[v][k] = here as u16;
+        slots[v][k] = i as u16;
         used[v] = k + 1;
     }
     slots

@@ -9,4 +9,4 @@ use Rattle.record_fields.proofs.next_at.Goals as goal
 
 pub returns : goal.returns
 unfolding next_hop
-returns c = c.byte_at.ensures ∙ ap (λ (l : List ℕ). get_or l 1 0) c.path_at.ensures
+returns c = c.value_or.ensures ∙ ap (λ (l : List ℕ). get_or l 1 0) c.path_at.ensures

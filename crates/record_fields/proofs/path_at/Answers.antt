@@ -7,4 +7,4 @@ pub returns-then-length-lt-PATH : goal.returns-then-length-lt-PATH
 returns-then-length-lt-PATH c = path_short _ _ c.record_at-r.ensures c.if-length-lt-PATH.true
 
 pub returns : goal.returns
-returns c = path_part _ _ c.record_at-r.ensures _ _ c.hops_at.ensures c.at_most-end.ensures
+returns c = path_part _ _ c.record_at-r.ensures _ _ c.hops_at.ensures c.min-end.ensures

@@ -9,4 +9,4 @@ use Rattle.record_fields.proofs.rank_at.Goals as goal
 
 pub returns : goal.returns
 unfolding rank_of
-returns c = c.byte_at.ensures ∙ ap (λ (l : List ℕ). get_or l 0 0) c.record_at.ensures
+returns c = c.value_or.ensures ∙ ap (λ (l : List ℕ). get_or l 0 0) c.record_at.ensures

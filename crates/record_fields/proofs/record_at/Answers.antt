@@ -7,4 +7,4 @@ pub returns-then-length-i : goal.returns-then-length-i
 returns-then-length-i c = record_past _ _ c.if-length-i.true
 
 pub returns : goal.returns
-returns c = record_part _ _ _ c.at_most-end.ensures
+returns c = record_part _ _ _ c.min-end.ensures

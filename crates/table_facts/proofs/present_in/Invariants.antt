@@ -1,12 +1,8 @@
 use mathlib.Core.Path.{◌≡◌}
-use Prim.Native.Nat.{◌≤◌, ◌-◌}
 use Rattle.lists.specs.Fill.{tabulate}
 use Rattle.rules.specs.Table.{records}
 use Rattle.laws.specs.PassLaws.{named_below}
 use Rattle.table_facts.proofs.present_in.Given as goal
 
 abbrev pub invariant-loop-i : goal.invariant-loop-i
-invariant-loop-i l = (l.count ≡ records l.table) × (l.i ≤ l.count) × (l.named ≡ tabulate (named_below l.table l.i) 64)
-
-abbrev pub decreases-loop-i : goal.decreases-loop-i
-decreases-loop-i l = l.count - l.i
+invariant-loop-i l = (l.count ≡ records l.table) × (l.named ≡ tabulate (named_below l.table l.i) 64)

@@ -9,29 +9,27 @@ use Rattle.table_facts.proofs.slots_of.Goals as goal
 
 pub loop-i-init : goal.loop-i-init
 unfolding records
-loop-i-init c = (c.at_most-count.ensures, omega arith, slots_none _)
+loop-i-init c = (c.min-count.ensures, slots_none _)
 
 pub loop-i-preserved-then-v-ge-VERTICES : goal.loop-i-preserved-then-v-ge-VERTICES
 loop-i-preserved-then-v-ge-VERTICES c =
-    (c.loop-i.invariant.0, omega arith, slots_skip c.loop-i.invariant.2 (omega arith))
+    (c.loop-i.invariant.0, slots_skip c.loop-i.invariant.1 (omega arith))
 
 pub loop-i-preserved-then-k-ge-SLOTS : goal.loop-i-preserved-then-k-ge-SLOTS
 loop-i-preserved-then-k-ge-SLOTS c =
     let at-loop = c.loop-i in (
       at-loop.invariant.0,
-      omega arith,
-      slots_full at-loop.invariant.2 c.owner_at-v.ensures c.if-v-ge-VERTICES.false c.if-k-ge-SLOTS.true,
+      slots_full at-loop.invariant.1 c.owner_at-v.ensures c.if-v-ge-VERTICES.false c.if-k-ge-SLOTS.true,
     )
 
 pub loop-i-preserved : goal.loop-i-preserved
 loop-i-preserved c =
     let at-loop = c.loop-i in (
       at-loop.invariant.0,
-      omega arith,
-      slots_store at-loop.invariant.2 c.owner_at-v.ensures c.if-v-ge-VERTICES.false refl c.if-k-ge-SLOTS.false,
+      slots_store at-loop.invariant.1 c.owner_at-v.ensures c.if-v-ge-VERTICES.false refl c.if-k-ge-SLOTS.false,
     )
 
 pub returns : goal.returns
 returns c =
     let e : c.loop-i.i ≡ min (records c.args.table.now) 1008 = omega arith in
-    rw (← e) c.loop-i.invariant.2.filled
+    rw (← e) c.loop-i.invariant.1.filled
