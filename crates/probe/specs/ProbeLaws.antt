@@ -1,5 +1,5 @@
 -- The numbers from the reader's answers: a refusal's code, which fits; marks and slots.
-use Rattle.std.specs.Prelude.{◌≡◌, refl, Bool, true, cond, ℕ, ◌+◌, ◌*◌, ◌/◌, ◌%◌, ◌<◌, ◌≤◌, get_or}
+use Rattle.std.specs.Prelude.{◌≡◌, refl, Bool, true, cond, Result, Ok, Err, ℕ, ◌+◌, ◌*◌, ◌/◌, ◌%◌, ◌<◌, ◌≤◌, get_or}
 use Rattle.std.proofs.Math.Path.{sym, ap}
 use Rattle.std.proofs.Common.{◌∙◌}
 use Rattle.std.proofs.Math.Bool.{false}
@@ -14,25 +14,25 @@ use Rattle.lists.specs.FillLaws.{tabulate_length, tabulate_at, padded_length}
 use Rattle.rules.specs.Table.{slots_of}
 use Rattle.rules.specs.Refusals.{Refusal, refusal}
 use Rattle.laws.specs.Accepted.{told}
-use Rattle.reader.specs.Reading.{reading_of}
+use Rattle.answer.specs.declared.Refusal as answer
+use Rattle.answer.specs.Refused.{refused_in}
 use Rattle.reader.specs.ReadingLaws.{reading_accepted, reading_refused}
-use Rattle.reader.specs.declared.Reading.TheVariants.{Accepted, Refused}
 use Rattle.rules.specs.Entries.{code_of}
 use Rattle.pairs.specs.NextHops.{hears_from, listens_in}
 use Rattle.probe.specs.Numbers.{mark_of, slots_in, slot_at, nexts_of}
 
 -- what the reader's answer says of the code
-pub accepted_code : (o : Option Refusal) → Accepted ≡ reading_of o → 0 ≡ code_of o
+pub accepted_code : {A : Type 0} (table : A) (o : Option Refusal) → refused_in (Ok table) ≡ o → 0 ≡ code_of o
 unfolding code_of
-accepted_code o e = rw (reading_accepted o e)
+accepted_code table o e = rw (reading_accepted table o e)
 
-module _ (n k : ℕ) where
-  pub refused_code : (o : Option Refusal) → Refused n k ≡ reading_of o → n + 256 * k ≡ code_of o
+module _ (A : Type 0) (r : answer.Refusal) where
+  pub refused_code : (o : Option Refusal) → refused_in {A = A} (Err r) ≡ o → r.number + 256 * r.place ≡ code_of o
   unfolding code_of
-  refused_code o e = rw (reading_refused n k o e)
+  refused_code o e = rw (reading_refused A r o e)
 
-  pub refused_small : (t : List ℕ) → Refused n k ≡ reading_of (refusal t) → k < 1008
-  refused_small t e = (told t _ (reading_refused n k (refusal t) e)).place
+  pub refused_small : (t : List ℕ) → refused_in {A = A} (Err r) ≡ refusal t → r.place < 1008
+  refused_small t e = (told t _ (reading_refused A r (refusal t) e)).place
 
 mark_byte : (b : Bool) → bool_byte b ≡ cond b 1 0
 mark_byte true = refl

@@ -14,7 +14,7 @@ ghost use Rattle.probe.specs.Numbers.{mark_of, slot_at, nexts_of};
 
 use check_text::check_text;
 use pairs::{is_listening, next_hops};
-use reader::{Reading, read};
+use reader::read;
 use run_text::run_text;
 use table_facts::{longest_hops, present_in, slots_of};
 
@@ -31,11 +31,10 @@ const NO_RECORD: u64 = 65535;
 pub extern "C" fn probe_read(table: &[u8]) -> u64
     ensures { result ≡ code_of (refusal table.now) }
 {
-    let answer = read(table);
-    let Reading::Refused(number, place) = answer else {
-        return 0;
-    };
-    number as u64 + 256 * (place as u64)
+    match read(table) {
+        Ok(_) => 0,
+        Err(refusal) => u64::from(refusal.number) + 256 * (refusal.place as u64),
+    }
 }
 
 // The hops of the longest path.
