@@ -1,8 +1,8 @@
--- `reader::faults::rank_bad` meets its contract: the two tests are those of the definition.
+-- `reader::faults::Entry::rank_bad` meets its contract: the two tests are those of the definition.
 -- Assumes nothing.
 use mathlib.Core.Path.{◌∙◌}
 use Rattle.laws.specs.TableLaws.{rank_high, rank_other}
-use Rattle.reader.proofs.faults.rank_bad.Goals as goal
+use Rattle.reader.proofs.faults.Entry.rank_bad.Goals as goal
 
 pub returns-then-rank-gt-MOST_RANK : goal.returns-then-rank-gt-MOST_RANK
 returns-then-rank-gt-MOST_RANK c = rank_high _ _ _ c.rank_at-rank.ensures c.if-rank-gt-MOST_RANK.true

@@ -1,8 +1,8 @@
--- `reader::faults::last_bad` meets its contract: it is the byte behind the hops.
+-- `reader::faults::Entry::last_bad` meets its contract: it is the byte behind the hops.
 -- Assumes nothing.
 use mathlib.Core.Path.{◌∙◌}
 use Rattle.laws.specs.TableLaws.{last_seen}
-use Rattle.reader.proofs.faults.last_bad.Goals as goal
+use Rattle.reader.proofs.faults.Entry.last_bad.Goals as goal
 
 pub returns : goal.returns
 returns c =

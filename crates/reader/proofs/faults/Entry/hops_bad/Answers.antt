@@ -1,9 +1,9 @@
--- `reader::faults::hops_bad` meets its contract: the test is that of the hops.
+-- `reader::faults::Entry::hops_bad` meets its contract: the test is that of the hops.
 -- Assumes nothing.
 use mathlib.Core.Path.{◌∙◌, ap}
 use Rattle.lists.specs.Search.{outside}
 use Rattle.rules.specs.Refusals.{hops_bad}
-use Rattle.reader.proofs.faults.hops_bad.Goals as goal
+use Rattle.reader.proofs.faults.Entry.hops_bad.Goals as goal
 
 pub returns : goal.returns
 unfolding hops_bad

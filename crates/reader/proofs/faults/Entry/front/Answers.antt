@@ -1,14 +1,18 @@
--- `reader::faults::alone` meets its contract: the part of 16 bytes.
+-- `reader::faults::Entry::front` meets its contract: the part from behind the rank.
 -- Assumes nothing.
 use mathlib.Core.Path.{refl}
 use native.Mathlib.Omega.{arith}
 use Rattle.rules.specs.Table.{records}
-use Rattle.reader.specs.FrontLaws.{alone_part, alone_record, alone_there}
-use Rattle.reader.proofs.faults.alone.Goals as goal
+use Rattle.reader.specs.FrontLaws.{front_part}
+use Rattle.reader.proofs.faults.Entry.front.Goals as goal
 
 pub overflow_mul-at : goal.overflow_mul-at
 unfolding records
 overflow_mul-at c = omega arith
+
+pub overflow_add-at : goal.overflow_add-at
+unfolding records
+overflow_add-at c = omega arith
 
 pub overflow_add-end : goal.overflow_add-end
 unfolding records
@@ -19,6 +23,4 @@ unfolding records
 slice_bounds-result-end c = omega arith
 
 pub returns : goal.returns
-returns c =
-    let part = alone_part _ _ _ refl in
-    record { there = alone_there _ _ part c.requires; same = alone_record _ _ part }
+returns c = front_part _ _ _ _ _ c.requires (omega arith) refl
