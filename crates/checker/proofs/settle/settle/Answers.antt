@@ -28,7 +28,7 @@ pub loop-slots-preserved : goal.loop-slots-preserved
 loop-slots-preserved c =
     let i = c.loop-slots.invariant in
     let more =
-        settle_more c.args.table.accepted i.stands c.slots_of-slots.ensures i.counted c.stage-next.ensures refl
-        (differ _ _ (other_text _ _ c.if-eq.ensures))
+    settle_more c.args.table.accepted i.stands c.slots_of-slots.ensures i.counted c.stage-next.ensures refl
+    (differ _ _ (other_text _ _ c.if-eq.ensures))
     in
     record { counted = more.0; few = i.few; stands = more.1 }
