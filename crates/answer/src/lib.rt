@@ -1,5 +1,54 @@
-// The answers of the check, the step and the run: enums for what can happen, beside the counts.
+// The answers of the check, the step and the run: what can happen, beside the counts, and the refusals.
 #![tactic(auto)]
+
+ghost use Rattle.std.specs.Prelude.{◌≡◌};
+ghost use Rattle.answer.specs.Refused.{number_of};
+
+// What an input can break, in the order of the refusal numbers.
+#[derive(Clone, Copy, Debug, PartialEq, Eq)]
+pub enum Rule {
+    OtherLength = 1,
+    LongTable,
+    RaggedTable,
+    Hops,
+    Vertex,
+    Filler,
+    Twice,
+    Last,
+    Owner,
+    Rank,
+    SamePath,
+    HeardState,
+    Schedule,
+    NoListener,
+}
+
+impl From<Rule> for u8 {
+    ghost from_gives = { λ rule number. number ≡ number_of rule };
+
+    fn from(rule: Rule) -> u8 {
+        rule as u8
+    }
+}
+
+// The number of the rule that is broken, and the place where.
+#[derive(Clone, Copy, Debug, PartialEq, Eq)]
+pub struct Refusal {
+    pub number: u8,
+    pub place: usize,
+}
+
+impl Rule {
+    // The refusal of an input that breaks the rule at this place.
+    pub fn at(self, place: usize) -> Refusal
+        ensures { result ≡ record { number = number_of self; place = place } }
+    {
+        Refusal {
+            number: u8::from(self),
+            place,
+        }
+    }
+}
 
 // Complete, stuck with the ring's length, or refused with number and place.
 #[derive(Clone, Copy)]
@@ -19,24 +68,9 @@ pub struct Answer {
     pub longest: u8,
 }
 
-// The step's answer: the listener's movement, or refused with number and place.
-#[derive(Clone, Copy)]
-pub enum StepAnswer {
-    Moved(i32),
-    Refused(u8, usize),
-}
-
-// The run's verdict: accepted, or refused with number and place.
-#[derive(Clone, Copy)]
-pub enum RunVerdict {
-    Accepted,
-    Refused(u8, usize),
-}
-
-// The verdict beside the number of steps, of ups, of downs, of the last step that changed a choice, and of rounds.
+// The number of steps, of ups, of downs, of the last step that changed a choice, and of rounds.
 #[derive(Clone, Copy)]
 pub struct RunAnswer {
-    pub verdict: RunVerdict,
     pub steps: u32,
     pub ups: u32,
     pub downs: u32,

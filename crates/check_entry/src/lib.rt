@@ -16,11 +16,11 @@ fn write_check(bytes: &mut [u8], count: u8, answer: Answer)
     ensures { bytes.new ≡ overwritten (number_bytes (numbers_with count answer)) bytes.old }
 {
     let told = [
-        count as u32,
-        answer.settled as u32,
-        answer.stuck as u32,
-        answer.stages as u32,
-        answer.longest as u32,
+        u32::from(count),
+        u32::from(answer.settled),
+        u32::from(answer.stuck),
+        u32::from(answer.stages),
+        u32::from(answer.longest),
         0,
         0,
         0,
@@ -37,18 +37,15 @@ pub fn check_for_c(table: &[u8], rows: &mut [u8], ring: &mut [u8], numbers: &mut
         return WRONG_LENGTH;
     }
     let answer = check(table, rows, ring);
-    let verdict = answer.verdict;
-    match verdict {
+    match answer.verdict {
         Verdict::Complete => {
             write_check(numbers, 0, answer);
-            return 0;
+            0
         }
         Verdict::Stuck(count) => {
             write_check(numbers, count, answer);
-            return 0;
+            0
         }
-        Verdict::Refused(number, place) => {
-            return code_of(number, place as u32);
-        }
+        Verdict::Refused(number, place) => code_of(number, place as u32),
     }
 }

@@ -7,6 +7,8 @@ use Rattle.rules.specs.Refusals.{refusal, refused_if, ◌or_else◌}
 use Rattle.rules.specs.Report.{report}
 use Rattle.rules.specs.Answers.{other_length, check_refusal, check_verdict, check_numbers, rows_after, ring_after}
 use Rattle.answer.specs.declared.Answer.{Answer}
+use Rattle.answer.specs.declared.Refusal.{Refusal}
+use Rattle.answer.specs.Refused.{told}
 use Rattle.answer.specs.Meaning.{meaning}
 use Rattle.answer.specs.Meaning as says
 use Rattle.answer.proofs.MeaningLaws.{answer_tells}
@@ -32,6 +34,12 @@ one_check x y = (
   x.rows ∙ sym y.rows,
   x.ring ∙ sym y.ring,
 )
+
+-- what a refused call says and leaves
+pub record Kept (table lent_rows lent_ring : List ℕ) (r : Refusal) (rows_now ring_now : List ℕ) : Type 0 where
+  pub refusal : check_refusal table lent_rows lent_ring ≡ some (told r)
+  pub rows : rows_now ≡ lent_rows
+  pub ring : ring_now ≡ lent_ring
 
 -- it is what is reported of the check's refusal and of the rules' report
 checked : {table rows ring : List ℕ} {a : Answer} {rows_now ring_now : List ℕ}

@@ -3,42 +3,52 @@
 
 mod settle;
 
-ghost use Rattle.std.specs.Prelude.{◌≡◌};
-ghost use Rattle.std.proofs.Math.Option.{none};
-ghost use Rattle.rules.specs.Refusals.{refusal};
-ghost use Rattle.checker.specs.Checked.{Checked};
+ghost use Rattle.std.specs.Prelude.{◌≡◌, IfOk, IfErr};
+ghost use Rattle.std.proofs.Math.Option.{some};
+ghost use Rattle.rules.specs.Answers.{check_refusal};
+ghost use Rattle.answer.specs.Refused.{told};
+ghost use Rattle.checker.specs.Checked.{Checked, Kept};
 
 use crate::settle::settle;
-use answer::Answer;
-use reader::{Reading, read};
+use answer::{Answer, Refusal, Rule};
+use reader::{Table, read};
 use report_rows::ROWS;
-use reporter::{OTHER_LENGTH, RING, refused, report};
-use table_facts::slots_of;
+use reporter::{RING, refused, report};
 
 // The check of an accepted table.
-fn check_accepted(table: &[u8], rows: &mut [u8], ring: &mut [u8]) -> Answer
-    requires { refusal table.now ≡ none }
-    ensures { Checked table.now rows.old ring.old result rows.new ring.new }
+fn check_accepted(table: Table<'_>, rows: &mut [u8], ring: &mut [u8]) -> Answer
+    ensures { Checked table.entry.bytes.now rows.old ring.old result rows.new ring.new }
 {
-    let settling = settle(table, slots_of(table));
-    let marks = settling.marks;
-    let shown = settling.shown;
-    report(table, marks, shown, settling.stages, rows, ring)
+    let settling = settle(table);
+    let last = settling.last;
+    report(
+        table.bytes,
+        last.marks,
+        last.shown,
+        settling.stages,
+        rows,
+        ring,
+    )
+}
+
+// The check, or the refusal of a call that changes no byte.
+fn try_check(table: &[u8], rows: &mut [u8], ring: &mut [u8]) -> Result<Answer, Refusal>
+    ensures accepted { IfOk result (λ answer. Checked table.now rows.old ring.old answer rows.new ring.new) }
+    ensures refused { IfErr result (λ r. Kept table.now rows.old ring.old r rows.new ring.new) }
+{
+    if rows.len() != ROWS || ring.len() != RING {
+        return Err(Rule::OtherLength.at(0));
+    }
+    let accepted = read(table)?;
+    Ok(check_accepted(accepted, rows, ring))
 }
 
 // Checks a table of any length: the verdict and counts, the rows and the ring; a refused call changes no byte.
 pub fn check(table: &[u8], rows: &mut [u8], ring: &mut [u8]) -> Answer
     ensures { Checked table.now rows.old ring.old result rows.new ring.new }
 {
-    if rows.len() != ROWS {
-        return refused(OTHER_LENGTH, 0);
+    match try_check(table, rows, ring) {
+        Ok(answer) => answer,
+        Err(refusal) => refused(refusal.number, refusal.place),
     }
-    if ring.len() != RING {
-        return refused(OTHER_LENGTH, 0);
-    }
-    let reading = read(table);
-    let Reading::Refused(number, place) = reading else {
-        return check_accepted(table, rows, ring);
-    };
-    refused(number, place)
 }

@@ -1,7 +1,7 @@
 -- How the check keeps what is settled: a mark and a record number for each vertex, and one stage over them, for any bytes.
 -- The mark is the row's byte 0: the stage, 254 for absent, 255 for a vertex that waits. The record is that of the path with which the
 -- vertex settled or, where it waits, of its best compatible path as it was judged last; 65,535 for none.
-use Rattle.std.specs.Prelude.{ℕ, Bool, true, false, ◌||◌, ◌&&◌, List, [], ◌∷◌, get_or, eqb, ltb}
+use Rattle.std.specs.Prelude.{ℕ, Bool, true, false, ◌||◌, ◌&&◌, List, [], ◌∷◌, Option, Some, None, find, take_while, not, get_or, eqb, ltb}
 use Rattle.std.proofs.Math.Option.{none, some}
 use Rattle.rules.specs.Table.{Path, path_at, next_hop}
 use Rattle.rules.specs.Greedy.{Settled, compatible}
@@ -44,3 +44,17 @@ shown_after t slots marks shown v =
 unfoldable pub mark_after : List ℕ → List (List ℕ) → List ℕ → List ℕ → ℕ → ℕ → ℕ
 mark_after t slots marks shown number v =
     elim (is_judged marks v && enters_with t marks (shown_after t slots marks shown v)) [ true ↦ number | false ↦ get_or marks v 254 ]
+
+-- the record that a number shows, none at 65,535
+unfoldable pub record_shown : ℕ → Option ℕ
+record_shown i = elim (eqb i 65535) [ true ↦ None | false ↦ Some i ]
+
+-- the first record in front of the first empty slot whose path is compatible: what `best_record` shows
+abbrev pub first_compatible : List ℕ → List ℕ → List ℕ → List ℕ → Option ℕ
+first_compatible t marks shown slots =
+    find (λ i. compatible (settled_by t marks shown) (path_at t i)) (take_while (λ i. not (eqb i 65535)) slots)
+
+-- `enters_with` of a record or none
+unfoldable pub enters_by : List ℕ → List ℕ → Option ℕ → Bool
+enters_by t marks None = true
+enters_by t marks (Some i) = is_in marks (next_hop (path_at t i))

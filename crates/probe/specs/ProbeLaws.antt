@@ -4,7 +4,7 @@ use Rattle.std.proofs.Math.Path.{sym, ap}
 use Rattle.std.proofs.Common.{◌∙◌}
 use Rattle.std.proofs.Math.Bool.{false}
 use mathlib.Core.List.{List, []}
-use Rattle.std.proofs.Math.Option.{Option}
+use Rattle.std.proofs.Math.Option.{Option, none, some}
 use Rattle.std.proofs.Math.ListN.{length, get_or-eq_default}
 use mir.Val.{bool_byte}
 use borrow.Author.Tests.{lt-ltb, le-ltb}
@@ -14,25 +14,25 @@ use Rattle.lists.specs.FillLaws.{tabulate_length, tabulate_at, padded_length}
 use Rattle.rules.specs.Table.{slots_of}
 use Rattle.rules.specs.Refusals.{Refusal, refusal}
 use Rattle.laws.specs.Accepted.{told}
-use Rattle.reader.specs.Reading.{reading_of}
-use Rattle.reader.specs.ReadingLaws.{reading_accepted, reading_refused}
-use Rattle.reader.specs.declared.Reading.TheVariants.{Accepted, Refused}
+use Rattle.answer.specs.declared.Refusal as answer
+use Rattle.answer.specs.Refused as says
 use Rattle.rules.specs.Entries.{code_of}
 use Rattle.pairs.specs.NextHops.{hears_from, listens_in}
 use Rattle.probe.specs.Numbers.{mark_of, slots_in, slot_at, nexts_of}
 
 -- what the reader's answer says of the code
-pub accepted_code : (o : Option Refusal) → Accepted ≡ reading_of o → 0 ≡ code_of o
+
+pub accepted_code : (o : Option Refusal) → none ≡ o → 0 ≡ code_of o
 unfolding code_of
-accepted_code o e = rw (reading_accepted o e)
+accepted_code o e = rw (← e)
 
-module _ (n k : ℕ) where
-  pub refused_code : (o : Option Refusal) → Refused n k ≡ reading_of o → n + 256 * k ≡ code_of o
+module _ (r : answer.Refusal) where
+  pub refused_code : (o : Option Refusal) → some (says.told r) ≡ o → r.number + 256 * r.place ≡ code_of o
   unfolding code_of
-  refused_code o e = rw (reading_refused n k o e)
+  refused_code o e = rw (← e)
 
-  pub refused_small : (t : List ℕ) → Refused n k ≡ reading_of (refusal t) → k < 1008
-  refused_small t e = (told t _ (reading_refused n k (refusal t) e)).place
+  pub refused_small : (t : List ℕ) → some (says.told r) ≡ refusal t → (r.number ≤ 11) × (r.place < 1008)
+  refused_small t e = let small = told t _ (sym e) in (small.most, small.place)
 
 mark_byte : (b : Bool) → bool_byte b ≡ cond b 1 0
 mark_byte true = refl

@@ -14,7 +14,7 @@ ghost use Rattle.probe.specs.Numbers.{mark_of, slot_at, nexts_of};
 
 use check_text::check_text;
 use pairs::{is_listening, next_hops};
-use reader::{Reading, read};
+use reader::read;
 use run_text::run_text;
 use table_facts::{longest_hops, present_in, slots_of};
 
@@ -31,11 +31,10 @@ const NO_RECORD: u64 = 65535;
 pub extern "C" fn probe_read(table: &[u8]) -> u64
     ensures { result ≡ code_of (refusal table.now) }
 {
-    let answer = read(table);
-    let Reading::Refused(number, place) = answer else {
-        return 0;
-    };
-    number as u64 + 256 * (place as u64)
+    match read(table) {
+        Ok(_) => 0,
+        Err(refusal) => u64::from(refusal.number) + 256 * (refusal.place as u64),
+    }
 }
 
 // The hops of the longest path.
@@ -43,7 +42,7 @@ pub extern "C" fn probe_read(table: &[u8]) -> u64
 pub extern "C" fn probe_longest(table: &[u8]) -> u64
     ensures { result ≡ longest table.now }
 {
-    longest_hops(table) as u64
+    u64::from(longest_hops(table))
 }
 
 // 1 where v is a vertex that is present, otherwise 0.
@@ -55,7 +54,7 @@ pub extern "C" fn probe_present(table: &[u8], v: u64) -> u64
         return 0;
     }
     let marks = present_in(table);
-    marks[v as usize] as u64
+    u64::from(marks[v as usize])
 }
 
 // 1 where the pair, 64 times the listener plus the speaker, listens by the slots, which in an accepted table is where it
@@ -68,14 +67,7 @@ pub extern "C" fn probe_listens(table: &[u8], pair: u64) -> u64
         return 0;
     }
     let nexts = next_hops(table);
-    is_listening(&nexts, (pair / VERTICES) as u8, (pair % VERTICES) as u8) as u64
-}
-
-// A function of its own, since the cast of an element in place would ask again that the element fits.
-fn wide(number: u16) -> u64
-    ensures { result ≡ number }
-{
-    number as u64
+    u64::from(is_listening(&nexts, (pair / VERTICES) as u8, (pair % VERTICES) as u8))
 }
 
 // The record in slot k of v, 65,535 where the slot is empty or there is none.
@@ -91,7 +83,7 @@ pub extern "C" fn probe_slot(table: &[u8], v: u64, k: u64) -> u64
     }
     let slots = slots_of(table);
     let row = slots[v as usize];
-    wide(row[k as usize])
+    u64::from(row[k as usize])
 }
 
 // The check program's text, laid over the front of the lent text as far as it fits, and how many bytes that is.

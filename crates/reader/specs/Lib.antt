@@ -1,5 +1,6 @@
 -- The answer of the reader, and how it compares paths.
-pub mod Reading
 pub mod ReadingLaws
+pub mod Fault
+pub mod FaultLaws
 pub mod Front
 pub mod FrontLaws

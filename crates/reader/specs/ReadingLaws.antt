@@ -1,30 +1,37 @@
--- What the reader's answer tells: the refusal.
-use Rattle.std.specs.Prelude.{◌≡◌, refl, ℕ}
-use Rattle.std.proofs.Common.{sym}
+-- What the reader's answer tells: the refusal; and the refusal tells the answer.
+use Rattle.std.specs.Prelude.{◌≡◌, refl, Result, Ok, Err}
+use Rattle.std.proofs.Common.{sym, ◌∙◌, ap}
 use Rattle.std.proofs.Math.Option.{Option, none, some}
 use Rattle.lists.specs.Tests.{impossible}
-use Rattle.rules.specs.Refusals.{Refusal}
-use Rattle.reader.specs.declared.Reading.TheVariants.{Accepted, Refused}
-use Rattle.reader.specs.Reading.{reading_of}
+use Rattle.rules.specs.Refusals as rules
+use Rattle.answer.specs.declared.Refusal.{Refusal}
+use Rattle.answer.specs.Refused.{told, refused_in}
+use Rattle.answer.specs.RefusedLaws.{told_tells}
 
 -- different refusals get different answers
-pub reading_tells : (a b : Option Refusal) → reading_of a ≡ reading_of b → a ≡ b
-unfolding reading_of
-reading_tells none none e = refl
-reading_tells none (some r) e = impossible cc
-reading_tells (some r) none e = impossible cc
-reading_tells (some r) (some s) e =
-    let n : r.number ≡ s.number = cc in
-    let p : r.place ≡ s.place = cc in
-    λ i. some (record { number = n i; place = p i })
+pub reading_tells : {A : Type 0} (x y : Result A Refusal) (a b : Option rules.Refusal)
+    → refused_in x ≡ a
+    → refused_in y ≡ b
+    → x ≡ y
+    → a ≡ b
+reading_tells {A} x y a b e f g = sym e ∙ ap (refused_in {A = A}) g ∙ f
 
 -- what each answer says of the refusal
-pub reading_accepted : (o : Option Refusal) → Accepted ≡ reading_of o → o ≡ none
-unfolding reading_of
-reading_accepted o e = sym (reading_tells none o e)
 
-pub reading_refused : (n k : ℕ) (o : Option Refusal)
-    → Refused n k ≡ reading_of o
-    → o ≡ some (record { number = n; place = k })
-unfolding reading_of
-reading_refused n k o e = sym (reading_tells (some (record { number = n; place = k })) o e)
+pub reading_accepted : {A : Type 0} (table : A) (o : Option rules.Refusal) → refused_in (Ok table) ≡ o → o ≡ none
+reading_accepted table o e = sym e
+
+pub reading_refused : (A : Type 0) (r : Refusal) (o : Option rules.Refusal)
+    → refused_in {A = A} (Err r) ≡ o
+    → o ≡ some (record { number = r.number; place = r.place })
+reading_refused A r o e = sym e
+
+-- and a reading is told by its refusal
+
+pub accepted_told : {A : Type 0} (a : Result A Refusal) → refused_in a ≡ none → (table : A) × (a ≡ Ok table)
+accepted_told (Ok table) e = (table, refl)
+accepted_told (Err r) e = impossible cc
+
+pub refused_told : {A : Type 0} (a : Result A Refusal) (r : Refusal) → refused_in a ≡ some (told r) → a ≡ Err r
+refused_told (Ok table) r e = impossible cc
+refused_told {A} (Err s) r e = λ i. Err (told_tells s r e i)

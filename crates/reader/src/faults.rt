@@ -4,9 +4,11 @@ ghost use Rattle.rules.specs.Table.{records, record_at, hops_at};
 ghost use Rattle.rules.specs.Refusals.{hops_bad, vertex_bad, filler_bad, twice_bad, last_bad, owner_bad, rank_due, rank_bad, path_bad, fault};
 ghost use Rattle.laws.specs.TableLaws.{Orderly};
 ghost use Rattle.reader.specs.Front.{front};
+ghost use Rattle.reader.specs.Fault.{fault_in};
 
+use answer::Rule;
 use record_fields::{RECORD_BYTES, hops_at, owner_at, path_at, rank_at, record_at};
-use slices::{any_outside, byte_at, has_twice, is_outside, same_parts};
+use slices::{any_outside, has_twice, is_outside, same_parts, value_or};
 
 const MOST_HOPS: u8 = 12;
 
@@ -40,7 +42,7 @@ pub(crate) fn filler_bad(table: &[u8], i: usize) -> bool
     ensures { result ≡ filler_bad (record_at table.now i) }
 {
     let r = record_at(table, i);
-    let from = hops_at(table, i) as usize + 3;
+    let from = usize::from(hops_at(table, i)) + 3;
     if any_outside(FILLER, FILLER, &r[from..LAST_BYTE]) {
         return true;
     }
@@ -58,8 +60,8 @@ pub(crate) fn twice_bad(table: &[u8], i: usize) -> bool
 pub(crate) fn last_bad(table: &[u8], i: usize) -> bool
     ensures { result ≡ last_bad (record_at table.now i) }
 {
-    let last = hops_at(table, i) as usize + 2;
-    is_outside(0, 0, byte_at(record_at(table, i), last))
+    let last = usize::from(hops_at(table, i)) + 2;
+    is_outside(0, 0, value_or(record_at(table, i), last, 0))
 }
 
 // Refusal 9.
@@ -82,7 +84,7 @@ pub(crate) fn rank_due(table: &[u8], i: usize) -> u16
     if owner_at(table, i) != owner_at(table, i - 1) {
         return 1;
     }
-    rank_at(table, i - 1) as u16 + 1
+    u16::from(rank_at(table, i - 1)) + 1
 }
 
 // Refusal 10.
@@ -93,14 +95,15 @@ pub(crate) fn rank_bad(table: &[u8], i: usize) -> bool
     if MOST_RANK < rank {
         return true;
     }
-    rank as u16 != rank_due(table, i)
+    u16::from(rank) != rank_due(table, i)
 }
 
 // Record i as a table of its own: its 16 bytes are known to be there, so that the compiler drops the tests for each
 // field.
 fn alone(table: &[u8], i: usize) -> &[u8]
     requires { i < records table.now }
-    ensures { result.now ≡ record_at table.now i }
+    ensures there { 0 < records result.now }
+    ensures same { record_at result.now 0 ≡ record_at table.now i }
 {
     let at = i * RECORD_BYTES;
     let end = at + RECORD_BYTES;
@@ -123,47 +126,47 @@ pub(crate) fn path_bad(table: &[u8], i: usize) -> bool
     ensures { result ≡ path_bad table.now i }
 {
     let r = alone(table, i);
-    let count = hops_at(r, 0) as usize + 2;
+    let count = usize::from(hops_at(r, 0)) + 2;
     let path = front_at(table, i, count);
-    let mut j = i + 1 - rank_at(r, 0) as usize;
-    while j < i {
+    let first = i + 1 - usize::from(rank_at(r, 0));
+    for j in first..i {
         if same_parts(front_at(table, j, count), path) {
             return true;
         }
-        j += 1;
     }
     false
 }
 
-// The number of the first rule that record i breaks, 0 where it breaks none.
-pub(crate) fn fault_of(table: &[u8], i: usize) -> u8
+// The first rule that record i breaks, if it breaks one.
+#[tactic(auto, using(crate::specs::FaultLaws::fault_by_rules))]
+pub(crate) fn fault_of(table: &[u8], i: usize) -> Result<(), Rule>
     requires { (i < records table.now) × Orderly table.now i }
-    ensures { result ≡ fault table.now i }
+    ensures { fault_in result ≡ fault table.now i }
 {
     let r = alone(table, i);
     if hops_bad(r, 0) {
-        return 4;
+        return Err(Rule::Hops);
     }
     if vertex_bad(r, 0) {
-        return 5;
+        return Err(Rule::Vertex);
     }
     if filler_bad(r, 0) {
-        return 6;
+        return Err(Rule::Filler);
     }
     if twice_bad(r, 0) {
-        return 7;
+        return Err(Rule::Twice);
     }
     if last_bad(r, 0) {
-        return 8;
+        return Err(Rule::Last);
     }
     if owner_bad(table, i) {
-        return 9;
+        return Err(Rule::Owner);
     }
     if rank_bad(table, i) {
-        return 10;
+        return Err(Rule::Rank);
     }
     if path_bad(table, i) {
-        return 11;
+        return Err(Rule::SamePath);
     }
-    0
+    Ok(())
 }

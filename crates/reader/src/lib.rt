@@ -3,42 +3,42 @@
 
 mod faults;
 
-ghost use Rattle.std.specs.Prelude.{◌≡◌};
+ghost use Rattle.std.specs.Prelude.{◌≡◌, IfOk};
+ghost use Rattle.std.proofs.Math.Option.{none};
 ghost use Rattle.rules.specs.Refusals.{refusal};
-ghost use Rattle.reader.specs.Reading.{reading_of};
+ghost use Rattle.answer.specs.Refused.{refused_in};
 
 use crate::faults::fault_of;
+use answer::{Refusal, Rule};
 use record_fields::RECORD_BYTES;
 
 // 1,008 records.
 const MOST_BYTES: usize = 16128;
 
-// A table is accepted, or refused with number and place.
-#[derive(Clone, Copy)]
-pub enum Reading {
-    Accepted,
-    Refused(u8, usize),
+// A table that is accepted.
+#[derive(Clone, Copy, Debug, PartialEq, Eq)]
+pub struct Table<'a> {
+    pub bytes: &'a [u8],
+    pub ghost accepted: { refusal bytes.now ≡ none },
 }
 
-// Reads a table of any length: the rules' first refusal, or accepted.
-pub fn read(table: &[u8]) -> Reading
-    ensures { result ≡ reading_of (refusal table.now) }
+// Reads a table of any length: the rules' first refusal, or the table as an accepted one.
+pub fn read(table: &[u8]) -> Result<Table<'_>, Refusal>
+    ensures refusal { refused_in result ≡ refusal table.now }
+    ensures bytes { IfOk result (λ accepted. accepted.bytes.now ≡ table.now) }
 {
     let length = table.len();
     if MOST_BYTES < length {
-        return Reading::Refused(2, 0);
+        return Err(Rule::LongTable.at(0));
     }
     if length % RECORD_BYTES != 0 {
-        return Reading::Refused(3, 0);
+        return Err(Rule::RaggedTable.at(0));
     }
     let count = length / RECORD_BYTES;
-    let mut i = 0;
-    while i < count {
-        let number = fault_of(table, i);
-        if number != 0 {
-            return Reading::Refused(number, i);
+    for i in 0..count {
+        if let Err(rule) = fault_of(table, i) {
+            return Err(rule.at(i));
         }
-        i += 1;
     }
-    Reading::Accepted
+    Ok(Table { bytes: table })
 }

@@ -1,7 +1,7 @@
 -- Laws of the rows that marks and records show, as the code's steps need them.
 use Rattle.std.specs.Prelude.{◌≡◌, ◌≢◌, take, set}
 use Rattle.std.proofs.Math.Path.{refl, ap}
-use Rattle.std.proofs.Common.{sym, ◌∙◌, length-set, length-take, length-drop, length-append, take_all}
+use Rattle.std.proofs.Common.{◌∙◌, length-take, length-drop}
 use mathlib.Core.List.{List, [], ◌∷◌, ◌++◌, append-nil}
 use Prim.Native.Nat.{ℕ, suc, pred, ◌+◌, ◌-◌, ◌*◌, ◌<◌, ◌≤◌}
 use native.Mathlib.Omega.{arith}
@@ -9,7 +9,7 @@ use Rattle.std.proofs.Math.ListN.{length, get_or, drop, drop_of_length-le}
 use borrow.Author.Tests.{eq-eqb, ne_eqb}
 use Rattle.lists.specs.Fill.{blocks, padded}
 use Rattle.lists.specs.ListLaws.{get_or_within}
-use Rattle.lists.specs.RenewLaws.{block_first, block_length, block_more}
+use Rattle.lists.specs.RenewLaws.{block_first, block_more}
 use Rattle.lists.specs.Tests.{by_equal}
 use Rattle.rules.specs.Table.{record_at, hops_of, path_of, rank_at, path_at}
 use Rattle.rules.specs.Report.{row_bytes}
@@ -20,9 +20,6 @@ use Rattle.report_rows.specs.ShownRows.{shown_row, shown_rows}
 module _ (mark rank hops : ℕ) where
   abbrev pub three_set : List ℕ → List ℕ
   three_set l = set (set (set l 0 mark) 1 rank) 2 hops
-
-  pub three_length : (l : List ℕ) → length l ≡ 16 → length (three_set l) ≡ 16
-  three_length l e = length-set (set (set l 0 mark) 1 rank) 2 hops ∙ length-set (set l 0 mark) 1 rank ∙ length-set l 0 mark ∙ e
 
   pub row_written_lem : (p ys l : List ℕ)
       → hops ≡ pred (length p)
@@ -78,13 +75,9 @@ path_most t i =
 
 module _ (t marks shown rows : List ℕ) (long : length rows ≡ 1024) (ys : List ℕ) where
   -- the rows after the first
-  pub first_written : ys ≡ row_bytes 0 0 (0 ∷ [])
-      → (length (ys ++ drop 16 rows) ≡ 1024) × (take 16 (ys ++ drop 16 rows) ≡ blocks (shown_row t marks shown) 1)
+  pub first_written : ys ≡ row_bytes 0 0 (0 ∷ []) → take 16 (ys ++ drop 16 rows) ≡ blocks (shown_row t marks shown) 1
   first_written e =
-      let f = e ∙ shown_origin t marks shown in (
-        length-append ys (drop 16 rows) ∙ omega (arith, length-drop 16 rows, ap length f, shown_length t marks shown 0),
-        block_first (shown_row t marks shown) 16 (shown_length t marks shown) rows ys (omega arith) f,
-      )
+      block_first (shown_row t marks shown) 16 (shown_length t marks shown) rows ys (omega arith) (e ∙ shown_origin t marks shown)
 
   -- and after the next
   abbrev pub row_written : ℕ → List ℕ
@@ -94,20 +87,9 @@ module _ (t marks shown rows : List ℕ) (long : length rows ≡ 1024) (ys : Lis
       → v < 64
       → take (v * 16) rows ≡ blocks (shown_row t marks shown) v
       → ys ≡ shown_row t marks shown v
-      → (length (row_written (v * 16)) ≡ 1024) × (take ((v + 1) * 16) (row_written (v * 16)) ≡ blocks (shown_row t marks shown) (v + 1))
-  next_written v h come e = (
-    block_length (shown_row t marks shown) 16 (shown_length t marks shown) rows ys (v * 16) v (omega arith) e ∙ long,
-    block_more (shown_row t marks shown) 16 (shown_length t marks shown) rows ys (v * 16) v (omega arith) e ((v + 1) * 16) (omega arith) come,
-  )
-
--- all rows
-pub all_written : (t marks shown rows : List ℕ) (v : ℕ)
-    → length rows ≡ 1024
-    → v ≡ 64
-    → take (v * 16) rows ≡ blocks (shown_row t marks shown) v
-    → rows ≡ blocks (shown_row t marks shown) 64
-all_written t marks shown rows v l e come =
-    sym (take_all (v * 16) rows (omega arith)) ∙ come ∙ ap (blocks (shown_row t marks shown)) e
+      → take ((v + 1) * 16) (row_written (v * 16)) ≡ blocks (shown_row t marks shown) (v + 1)
+  next_written v h come e =
+      block_more (shown_row t marks shown) 16 (shown_length t marks shown) rows ys (v * 16) v (omega arith) e ((v + 1) * 16) (omega arith) come
 
 -- by the room that there is, and the marks and records
 module _ (t marks shown before : List ℕ) where

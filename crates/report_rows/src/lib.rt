@@ -22,11 +22,7 @@ fn hops_of(path: &[u8]) -> u8
     requires { length path.now ≤ 256 }
     ensures { result ≡ pred (length path.now) }
 {
-    let count = path.len();
-    if count == 0 {
-        return 0;
-    }
-    (count - 1) as u8
+    path.len().saturating_sub(1) as u8
 }
 
 // Writes a row to the part of the rows that is its vertex's.
@@ -41,23 +37,21 @@ fn write_row(part: &mut [u8], mark: u8, rank: u8, path: &[u8])
 }
 
 // Writes all rows: that of vertex 0, whose path is no record, then those that show their records.
-fn fill_rows(table: &[u8], marks: &[u8], shown: &[u16], rows: &mut [u8])
-    requires { (length marks.now ≡ 64) × (length shown.now ≡ 64) × (length rows.old ≡ 1024) }
+fn fill_rows(table: &[u8], marks: &[u8; VERTICES], shown: &[u16; VERTICES], rows: &mut [u8])
+    requires { length rows.old ≡ 1024 }
     ensures { rows.new ≡ blocks (shown_row table.now marks.now shown.now) 64 }
 {
     write_row(&mut rows[..ROW], 0, 0, b"\0");
-    let mut v = 1;
-    while v < VERTICES {
+    for v in 1..VERTICES {
         let at = v * ROW;
         let end = at + ROW;
-        let i = shown[v] as usize;
+        let i = usize::from(shown[v]);
         write_row(
             &mut rows[at..end],
             marks[v],
             rank_at(table, i),
             path_at(table, i),
         );
-        v += 1;
     }
 }
 
@@ -68,11 +62,11 @@ pub fn write_rows(table: &[u8], marks: &[u8], shown: &[u16], rows: &mut [u8])
     if rows.len() != ROWS {
         return;
     }
-    if marks.len() != VERTICES {
+    let Some(marks) = marks.as_array() else {
         return;
-    }
-    if shown.len() != VERTICES {
+    };
+    let Some(shown) = shown.as_array() else {
         return;
-    }
+    };
     fill_rows(table, marks, shown, rows);
 }

@@ -1,10 +1,8 @@
 -- The ring, told by marks for the stuck vertices and by the number that follows each vertex.
-use Rattle.std.specs.Prelude.{◌≡◌, ℕ, ◌-◌, ◌≤◌, Bool, false, List, [], drop, get_or, length, take}
+use Rattle.std.specs.Prelude.{◌≡◌, ℕ, ◌<◌, ◌≤◌, Bool, true, false, List, EachIndex, filter, get_or, length, ltb, slice_index}
 use Rattle.std.proofs.Common.{sym, ◌∙◌}
-use Rattle.std.proofs.Math.Option.{none, some}
 use Rattle.lists.specs.Fill.{padded}
-use Rattle.lists.specs.Search.{first_from}
-use Rattle.rules.specs.Greedy.{closed_part, ring_from}
+use Rattle.rules.specs.Greedy.{ring_from}
 
 -- "go to the next hop of its best compatible path": the number that follows v, 0 past the end
 abbrev pub next_in : List ℕ → ℕ → ℕ
@@ -26,12 +24,18 @@ pub one_ring : {stuck : List Bool} {next : List ℕ} {size a b : ℕ} {x y : Lis
     → (a ≡ b) × (x ≡ y)
 one_ring p q = (p.count ∙ sym q.count, p.ring ∙ sym q.ring)
 
--- the lowest marked vertex, 64 where there is none
-unfoldable pub lowest_marked : List Bool → ℕ
-lowest_marked stuck = elim (first_from (λ v. get_or stuck v false) 0 64) [ none ↦ 64 | some v ↦ v ]
+-- no vertex below n is marked
+abbrev pub NoneMarked : List Bool → ℕ → Type 0
+NoneMarked marks n = (v : ℕ) → v < n → get_or marks v false ≡ false
 
--- of the vertices walked from v, those from one place to another are the closed part, for a walk of at most `size` vertices
-pub record ClosedAt (next : ℕ → ℕ) (size v : ℕ) (walked : List ℕ) (from to : ℕ) : Type 0 where
-  pub order : from ≤ to
-  pub within : to ≤ size
-  pub part : take (to - from) (drop from walked) ≡ closed_part next size [] v
+-- v is the lowest marked vertex
+abbrev pub LowestMarked : List Bool → ℕ → Type 0
+LowestMarked marks v = (v < 64) × (get_or marks v false ≡ true) × NoneMarked marks v
+
+-- the numbers of a list that are vertices
+abbrev pub vertices_in : List ℕ → List ℕ
+vertices_in l = filter (λ v. ltb v 64) l
+
+-- m is the least number of a list
+abbrev pub IsLeast : List ℕ → ℕ → Type 0
+IsLeast l m = ((k : ℕ) × (k < length l) × (slice_index l k ≡ m)) × EachIndex l (λ k. m ≤ slice_index l k)

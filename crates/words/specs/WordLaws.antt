@@ -1,36 +1,21 @@
 -- Laws of numbers written as bytes: one number, numbers end to end, and signed ones.
-use Rattle.std.specs.Prelude.{◌≡◌, false, List, [], ◌∷◌, ◌++◌, map, ℕ, zero, suc, ◌+◌, ◌-◌, ◌*◌, ◌/◌, ◌%◌, ◌<◌, ◌≤◌, length, get_or, take, drop, set, replicate, ℤ, pos, negsuc, ◌-ℤ◌}
+use Rattle.std.specs.Prelude.{◌≡◌, List, [], ◌∷◌, ◌++◌, map, ℕ, zero, suc, ◌+◌, ◌-◌, ◌*◌, ◌<◌, length, get_or, take, drop, replicate, ℤ, pos, negsuc}
 use Rattle.std.proofs.Math.Path.{refl, sym, ap}
-use Rattle.std.proofs.Common.{◌∙◌, arith, take_all, SFits, to_z-of_z}
-use Rattle.std.proofs.Math.Bool.{true}
-use Rattle.std.proofs.Math.IntN.{nat_abs}
-use Rattle.std.specs.Int.Signed.{le_z}
-use Rattle.std.specs.Int.{w32}
-use Rattle.lists.specs.Tests.{true≢}
+use Rattle.std.proofs.Common.{◌∙◌, arith, take_all}
+use Rattle.std.specs.Int.{w32, to_le_bytes, cast_unsigned}
 use Rattle.lists.specs.Fill.{tabulate}
 use Rattle.lists.specs.FillLaws.{blocks_none, blocks_ext, tabulate_length, tabulate_at}
 use Rattle.lists.specs.RenewLaws.{block_length, block_more}
-use Rattle.lists.specs.SignedLaws.{back, under, left_back}
 use Rattle.rules.specs.Entries.{four_bytes, word_bytes, number_bytes, twos_complement, sum_bytes}
 use Rattle.rules.specs.Answers.{other_length}
 use Rattle.laws.specs.AnswerLaws.{other_length_lem, same_length}
 use Rattle.laws.specs.EntryLaws.{four_length, words_length, sum_word}
 use Rattle.words.specs.Words.{overwritten}
 
--- four stores fill four bytes
-four_written : (l : List ℕ) (a b c d : ℕ) → length l ≡ 4 → set (set (set (set l 0 a) 1 b) 2 c) 3 d ≡ a ∷ b ∷ c ∷ d ∷ []
-four_written [] a b c d e = absurd (omega arith)
-four_written (w ∷ []) a b c d e = absurd (omega arith)
-four_written (w ∷ x ∷ []) a b c d e = absurd (omega arith)
-four_written (w ∷ x ∷ y ∷ []) a b c d e = absurd (omega arith)
-four_written (w ∷ x ∷ y ∷ z ∷ []) a b c d e = refl
-four_written (w ∷ x ∷ y ∷ z ∷ v ∷ l) a b c d e = absurd (omega arith)
-
-pub word_written : (l : List ℕ) (n : ℕ)
-    → length l ≡ 4
-    → set (set (set (set l 0 (n % 256)) 1 (n / 256 % 256)) 2 (n / 65536 % 256)) 3 (n / 16777216 % 256) ≡ four_bytes n
+-- the library's bytes of a number, low byte first, are the page's
+pub word_written : (n : ℕ) → to_le_bytes w32 n ≡ four_bytes n
 unfolding four_bytes
-word_written l n e = four_written l _ _ _ _ e
+word_written n = refl
 
 -- numbers end to end, in a walk that has come to k
 module _ (ns : List ℕ) where
@@ -91,26 +76,11 @@ pub zeros_behind : (ns : List ℕ) (k : ℕ) → number_bytes (ns ++ replicate k
 unfolding number_bytes word_bytes
 zeros_behind ns k = blocks_ext _ _ 8 (λ i h. ap four_bytes (none_behind ns k i))
 
--- a signed number by its sign
-
-module _ (n : ℤ) (fits : SFits w32 n) where
-  pub complement_plain : le_z (pos 0) (back n) ≡ true → nat_abs (back n) ≡ twos_complement n
-  unfolding twos_complement
-  complement_plain h = rw (to_z-of_z fits) (go n (rw (to_z-of_z fits) at h))
-    where
-      go : (z : ℤ) → le_z (pos 0) z ≡ true → nat_abs z ≡ twos_complement z
-      go (pos a) h = refl
-      go (negsuc a) h = absurd (true≢ h refl)
-
-  module _ (h : le_z (pos 0) (back n) ≡ false) where
-    pub left_most : nat_abs (back (negsuc 0 -ℤ back n)) ≤ 4294967295
-    left_most = let u = under n fits h in let s : SFits w32 (negsuc u.0) = rw u.1 at fits in
-        rw (left_back n fits h) (omega (arith, s.sfits))
-
-    pub complement_negative : 4294967295 - nat_abs (back (negsuc 0 -ℤ back n)) ≡ twos_complement n
-    unfolding twos_complement
-    complement_negative = let u = under n fits h in
-        ap (λ (z : ℤ). 4294967295 - nat_abs z) (left_back n fits h) ∙ sym (ap twos_complement u.1)
+-- the library's two's complement is the page's
+pub complement_is : (n : ℤ) → cast_unsigned w32 n ≡ twos_complement n
+unfolding twos_complement
+complement_is (pos n) = refl
+complement_is (negsuc n) = omega arith
 
 -- all sums
 pub sums_words : (sums : List ℤ) (words : List ℕ)

@@ -4,4 +4,4 @@ use Rattle.checker.specs.Checked.{checked_accepted}
 use Rattle.checker.proofs.check_accepted.Goals as goal
 
 pub returns : goal.returns
-returns c = checked_accepted c.requires c.settle-settling.ensures c.report.ensures
+returns c = checked_accepted c.args.table.accepted c.settle-settling.ensures c.report.ensures

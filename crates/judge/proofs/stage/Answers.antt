@@ -1,25 +1,26 @@
 -- `judge::stage` meets its contract: the marks and records below v are new.
 -- Assumes nothing.
-use native.Mathlib.Omega.{arith}
+use Rattle.std.proofs.Common.{arith}
 use Rattle.judge.specs.StandingLaws.{judged_none, judged_skip, judged_wait, judged_enter, judged_all}
 use Rattle.judge.proofs.stage.Goals as goal
+use Rattle.judge.proofs.stage.Goals.{then-is_judged+then-enters, then-is_judged+else-enters, else-is_judged}
 
 pub loop-v-init : goal.loop-v-init
-loop-v-init c = judged_none _ _ _ _ _ (omega arith) (omega arith)
-
-pub loop-v-preserved-then-not-is_judged : goal.loop-v-preserved-then-not-is_judged
-loop-v-preserved-then-not-is_judged c =
-    judged_skip c.loop-v.invariant c.loop-v-test.true c.is_judged.ensures c.if-not-is_judged.true
-
-pub loop-v-preserved-then-not-enters : goal.loop-v-preserved-then-not-enters
-loop-v-preserved-then-not-enters c =
-    judged_wait c.loop-v.invariant c.loop-v-test.true c.is_judged.ensures c.if-not-is_judged.false
-    c.best_record-best.ensures c.enters.ensures c.if-not-enters.true
+loop-v-init c = judged_none _ _ _ _ _
 
 pub loop-v-preserved : goal.loop-v-preserved
 loop-v-preserved c =
-    judged_enter c.loop-v.invariant c.loop-v-test.true c.is_judged.ensures c.if-not-is_judged.false
-    c.best_record-best.ensures c.enters.ensures c.if-not-enters.false
+    let i = c.loop-v.invariant in
+    let h = c.loop-v-test.true in
+    elim c.if-is_judged.branch [
+      | then-is_judged+then-enters w ↦ rw w.after-is
+          (judged_enter i (omega arith) (omega arith) h c.is_judged.ensures w.if-is_judged.true w.best_record-best.ensures
+          w.unwrap_or.ensures w.enters.ensures w.if-enters.true)
+      | then-is_judged+else-enters w ↦ rw w.after-is
+          (judged_wait i (omega arith) (omega arith) h c.is_judged.ensures w.if-is_judged.true w.best_record-best.ensures
+          w.unwrap_or.ensures w.enters.ensures w.if-enters.false)
+      | else-is_judged w ↦ rw w.after-is (judged_skip i (omega arith) (omega arith) h c.is_judged.ensures w.if-is_judged.false)
+    ]
 
 pub returns : goal.returns
-returns c = judged_all c.loop-v.invariant (omega arith)
+returns c = judged_all c.loop-v.invariant (omega arith) (omega arith) (omega arith)

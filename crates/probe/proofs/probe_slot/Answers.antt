@@ -12,4 +12,4 @@ returns-then-k-ge-SLOTS c = slot_no_rank _ _ _ c.if-v-ge-VERTICES.false c.if-k-g
 
 pub returns : goal.returns
 returns c =
-    c.wide.ensures ∙ slot_in _ _ _ _ c.slots_of-slots.ensures c.if-v-ge-VERTICES.false c.if-k-ge-SLOTS.false
+    c.from.ensures ∙ slot_in _ _ _ _ c.slots_of-slots.ensures c.if-v-ge-VERTICES.false c.if-k-ge-SLOTS.false

@@ -1,50 +1,50 @@
 -- `reader::read` meets its contract: the first record with a fault is the answer, and the lengths are tested before.
 -- Assumes nothing.
-use mathlib.Core.Path.{refl, sym, ap, ◌∙◌}
-use Prim.Native.Nat.{ℕ}
+use mathlib.Core.Path.{sym}
 use native.Mathlib.Omega.{arith}
 use Rattle.rules.specs.Table.{records}
 use Rattle.laws.specs.TableLaws.{orderly_none, orderly_more, no_fault, bad_here, good_here, none_bad, all_to_find, refused_long, refused_ragged, refused_record, not_refused}
-use Rattle.reader.specs.Reading.{reading_of}
-use Rattle.reader.specs.declared.Reading.TheVariants.{Refused}
+use Rattle.answer.specs.RefusedLaws.{number_told}
 use Rattle.reader.proofs.read.Goals as goal
 
-pub returns-then-length-gt-MOST_BYTES : goal.returns-then-length-gt-MOST_BYTES
-unfolding reading_of
-returns-then-length-gt-MOST_BYTES c = sym (ap reading_of (refused_long _ c.if-length-gt-MOST_BYTES.true))
+pub returns-then-length-gt-MOST_BYTES-clause-refusal :
+    goal.returns-then-length-gt-MOST_BYTES-clause-refusal
+returns-then-length-gt-MOST_BYTES-clause-refusal c =
+    rw c.at.ensures (sym (refused_long _ c.if-length-gt-MOST_BYTES.true))
 
-pub returns-then-length-ne0 : goal.returns-then-length-ne0
-unfolding reading_of
-returns-then-length-ne0 c =
-    sym (ap reading_of (refused_ragged _ c.if-length-gt-MOST_BYTES.false c.if-length-ne0.true))
+pub returns-then-length-ne0-clause-refusal : goal.returns-then-length-ne0-clause-refusal
+returns-then-length-ne0-clause-refusal c =
+    rw c.at-then-length-ne0.ensures (sym (refused_ragged _ c.if-length-gt-MOST_BYTES.false c.if-length-ne0.true))
 
 pub loop-i-init : goal.loop-i-init
+loop-i-init c = record { orderly = orderly_none _; still = all_to_find _ }
+
+pub fault_of-requires : goal.fault_of-requires
 unfolding records
-loop-i-init c = (refl, omega arith, orderly_none _, all_to_find _)
+fault_of-requires c = (omega arith, c.loop-i.invariant.orderly)
 
-pub fault_of-number-requires : goal.fault_of-number-requires
-fault_of-number-requires c = (omega arith, c.loop-i.invariant.2)
-
-pub returns-then-number-ne0 : goal.returns-then-number-ne0
-unfolding reading_of
-returns-then-number-ne0 c =
-    let f = c.fault_of-number.ensures in
-    let bad = bad_here _ c.loop-i.i c.loop-i.invariant.3 _ f c.if-number-ne0.true (omega arith) in
-    ap (λ (n : ℕ). Refused n c.loop-i.i) f
-    ∙ sym (ap reading_of (refused_record _ c.if-length-gt-MOST_BYTES.false c.if-length-ne0.false c.loop-i.i bad))
+pub returns-in-Err-clause-refusal : goal.returns-in-Err-clause-refusal
+unfolding records
+returns-in-Err-clause-refusal c =
+    let f = c.in-Err.ensures in
+    let bad = bad_here _ c.loop-i.i c.loop-i.invariant.still _ f (number_told c.in-Err.rule) (omega arith) in
+    rw (c.at-in-Err.ensures, f)
+    (sym (refused_record _ c.if-length-gt-MOST_BYTES.false c.if-length-ne0.false c.loop-i.i bad))
 
 pub loop-i-preserved : goal.loop-i-preserved
+unfolding records
 loop-i-preserved c =
-    let f = sym c.fault_of-number.ensures ∙ c.if-number-ne0.false in
-    let k = no_fault _ _ f in (
-      c.loop-i.invariant.0,
-      omega arith,
-      orderly_more _ _ c.loop-i.invariant.2 k.owner k.rank,
-      good_here _ c.loop-i.i c.loop-i.invariant.3 f (omega arith),
-    )
+    let f = sym c.in_default.ensures in
+    let k = no_fault _ _ f in
+    record {
+      orderly = orderly_more _ _ c.loop-i.invariant.orderly k.owner k.rank;
+      still = good_here _ c.loop-i.i c.loop-i.invariant.still f (omega arith);
+    }
 
-pub returns : goal.returns
-unfolding reading_of
-returns c =
-    sym (ap reading_of (not_refused _ c.if-length-gt-MOST_BYTES.false c.if-length-ne0.false
-    (none_bad _ c.loop-i.i c.loop-i.invariant.3 (omega arith))))
+pub invariant_of-result : goal.invariant_of-result
+unfolding records
+invariant_of-result c =
+    record {
+      accepted = not_refused _ c.if-length-gt-MOST_BYTES.false c.if-length-ne0.false
+          (none_bad _ c.loop-i.i c.loop-i.invariant.still (omega arith));
+    }

@@ -1,15 +1,10 @@
 -- `ring::find_ring` meets its contract: the closed part of the walk from the lowest marked vertex, turned.
 -- Assumes nothing.
-use native.Mathlib.Omega.{arith}
-use Rattle.ring.specs.WalkLaws.{writes_none}
-use Rattle.ring.proofs.WalkLaws.{writes_ring}
+use Rattle.ring.proofs.WalkLaws.{writes_none, writes_ring}
 use Rattle.ring.proofs.find_ring.Goals as goal
 
-pub returns-then-start-eq-VERTICES : goal.returns-then-start-eq-VERTICES
-returns-then-start-eq-VERTICES c =
-    writes_none _ _ c.lowest_marked-start.ensures _ c.if-start-eq-VERTICES.true c.fill_padded.ensures
+pub returns-in_default : goal.returns-in_default
+returns-in_default c = writes_none _ _ _ c.in_default.ensures c.clear.ensures
 
 pub returns : goal.returns
-returns c =
-    writes_ring _ _ c.lowest_marked-start.ensures _ c.if-start-eq-VERTICES.false c.walk-closed.ensures (omega arith)
-    c.write_turned.ensures
+returns c = writes_ring _ _ _ c.in-Some.start c.in-Some.ensures c.walk-closed.ensures.part c.turn.ensures c.fill_padded.ensures

@@ -1,17 +1,11 @@
--- `ring::lowest_place` meets its contract: the lowest of those passed and its first place are kept.
+-- `ring::lowest_place` meets its contract: the least vertex is the lowest, and where there is none it has no place.
 -- Assumes nothing.
-use native.Mathlib.Omega.{arith}
-use Rattle.ring.specs.WalkLaws.{lowest_none, lowest_kept, lowest_new, lowest_place}
+use Rattle.std.proofs.Common.{sym, ◌∙◌}
+use Rattle.ring.specs.WalkLaws.{lowest_least, lowest_missing}
 use Rattle.ring.proofs.lowest_place.Goals as goal
 
-pub loop-i-init : goal.loop-i-init
-loop-i-init c = (omega arith, lowest_none _)
-
-pub loop-i-preserved-then-low-part : goal.loop-i-preserved-then-low-part
-loop-i-preserved-then-low-part c = (omega arith, lowest_kept _ _ _ _ c.loop-i.invariant.1 c.if-low-part.true)
-
-pub loop-i-preserved : goal.loop-i-preserved
-loop-i-preserved c = (omega arith, lowest_new _ _ _ _ c.loop-i.invariant.1 c.if-low-part.false)
+pub returns-in_err-low : goal.returns-in_err-low
+returns-in_err-low c = c.from_residual.ensures ∙ sym (lowest_missing _ c.in_err-low.ensures)
 
 pub returns : goal.returns
-returns c = lowest_place _ _ _ _ c.loop-i.invariant.1 (omega arith)
+returns c = rw (lowest_least c.args.part.now _ c.in_ok-low.ensures) c.place_of.ensures

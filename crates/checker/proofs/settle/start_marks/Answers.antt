@@ -1,21 +1,17 @@
--- `checker::settle::start_marks` meets its contract: below v stand the marks at the start.
+-- `checker::settle::start_marks` meets its contract: each element is the mark at the start.
 -- Assumes nothing.
-use mathlib.Core.Path.{refl, sym, ◌∙◌}
-use Prim.Native.Nat.{ℕ}
-use native.Mathlib.Omega.{arith}
-use lib.ListN.{length-set, length-replicate}
-use Rattle.lists.specs.FillLaws.{tabulate_none, fill_more, fill_end}
+use mathlib.Core.Path.{refl, ◌∙◌}
+use mathlib.Core.Bool.{false}
+use borrow.Author.Rules.{rules}
+use lib.ListN.{get_or}
+use Rattle.lists.specs.FillLaws.{tabulate_ext}
+use Rattle.slices.specs.FromFn.{tabulated}
+use Rattle.checker.specs.AfterStages.{start_mark}
 use Rattle.checker.specs.StartLaws.{start_same}
 use Rattle.checker.proofs.settle.start_marks.Goals as goal
 
-pub loop-v-init : goal.loop-v-init
-loop-v-init c = (omega arith, length-replicate {A = ℕ} 64 0, sym (tabulate_none _))
-
-pub loop-v-preserved : goal.loop-v-preserved
-loop-v-preserved c =
-    let l = c.loop-v in
-    let here = c.start_mark.ensures ∙ start_same _ _ l.v refl in
-    (omega arith, length-set l.marks l.v _ ∙ l.invariant.1, fill_more _ _ _ l.v _ l.invariant.2 (omega arith) refl here)
-
 pub returns : goal.returns
-returns c = let l = c.loop-v in fill_end _ _ _ _ l.invariant.2 (sym l.invariant.1) (omega arith)
+returns c =
+    let named = c.args.present in
+    tabulated _ _ (λ i. start_mark (λ u. get_or named i false) i) (λ i y q made. search rules) 0 _ 64 c.from_fn.ensures.items
+    ∙ tabulate_ext _ _ 64 (λ v h. start_same _ _ v refl)

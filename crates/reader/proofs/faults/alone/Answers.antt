@@ -3,7 +3,7 @@
 use mathlib.Core.Path.{refl}
 use native.Mathlib.Omega.{arith}
 use Rattle.rules.specs.Table.{records}
-use Rattle.reader.specs.FrontLaws.{alone_part}
+use Rattle.reader.specs.FrontLaws.{alone_part, alone_record, alone_there}
 use Rattle.reader.proofs.faults.alone.Goals as goal
 
 pub overflow_mul-at : goal.overflow_mul-at
@@ -19,4 +19,6 @@ unfolding records
 slice_bounds-result-end c = omega arith
 
 pub returns : goal.returns
-returns c = alone_part _ _ _ refl
+returns c =
+    let part = alone_part _ _ _ refl in
+    record { there = alone_there _ _ part c.requires; same = alone_record _ _ part }

@@ -1,5 +1,6 @@
 -- `reader::faults::rank_bad` meets its contract: the two tests are those of the definition.
 -- Assumes nothing.
+use mathlib.Core.Path.{◌∙◌}
 use Rattle.laws.specs.TableLaws.{rank_high, rank_other}
 use Rattle.reader.proofs.faults.rank_bad.Goals as goal
 
@@ -8,4 +9,5 @@ returns-then-rank-gt-MOST_RANK c = rank_high _ _ _ c.rank_at-rank.ensures c.if-r
 
 pub returns : goal.returns
 returns c =
-    rank_other _ _ _ c.rank_at-rank.ensures _ c.if-rank-gt-MOST_RANK.false c.rank_due.ensures
+    let rank = c.from.ensures ∙ c.rank_at-rank.ensures in
+    rank_other _ _ _ rank _ (rw c.from.ensures c.if-rank-gt-MOST_RANK.false) c.rank_due.ensures

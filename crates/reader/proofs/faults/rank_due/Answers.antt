@@ -1,5 +1,6 @@
 -- `reader::faults::rank_due` meets its contract: the two tests are those of the definition.
 -- Assumes nothing.
+use mathlib.Core.Path.{◌∙◌}
 use Rattle.rules.specs.Refusals.{rank_due}
 use Rattle.laws.specs.TableLaws.{rank_due_new, rank_due_same}
 use Rattle.reader.proofs.faults.rank_due.Goals as goal
@@ -15,4 +16,4 @@ returns-then-owner_at c =
 pub returns : goal.returns
 returns c =
     rank_due_same _ _ c.if-i-eq0.false c.owner_at.ensures c.owner_at-2.ensures
-    c.if-owner_at.false c.rank_at.ensures
+    c.if-owner_at.false (c.from.ensures ∙ c.rank_at.ensures)
