@@ -3,6 +3,7 @@ use Rattle.std.specs.Prelude.{◌≡◌, ◌||◌, List, ℕ}
 use Rattle.std.proofs.Common.{sym, ◌∙◌}
 use Rattle.std.proofs.Math.Option.{none, some}
 use Rattle.lists.specs.Tests.{by_test}
+use Rattle.rules.specs.Refusals as rules
 use Rattle.rules.specs.Refusals.{refusal, refused_if, ◌or_else◌}
 use Rattle.rules.specs.Report.{report}
 use Rattle.rules.specs.Answers.{other_length, check_refusal, check_verdict, check_numbers, rows_after, ring_after}
@@ -54,6 +55,16 @@ pub checked_refused : {table rows ring : List ℕ} {a : Answer} (n k : ℕ)
     → a ≡ refusal_answer n k
     → Checked table rows ring a rows ring
 checked_refused n k e q = checked (reported_refused n k e q)
+
+-- a lent buffer decides first, then the table
+module _ (table rows ring : List ℕ) where
+  pub lent_first : {r : rules.Refusal} → lent_refusal rows ring ≡ some r → check_refusal table rows ring ≡ some r
+  unfolding lent_refusal check_refusal ◌or_else◌
+  lent_first e = rw (e, ◌or_else◌)
+
+  pub lent_then : lent_refusal rows ring ≡ none → check_refusal table rows ring ≡ refusal table
+  unfolding lent_refusal check_refusal ◌or_else◌
+  lent_then e = rw (e, ◌or_else◌)
 
 -- an accepted table: its call is refused for a lent buffer alone
 lent_alone : (table rows ring : List ℕ) → refusal table ≡ none → lent_refusal rows ring ≡ check_refusal table rows ring

@@ -10,10 +10,9 @@ ghost use Rattle.answer.specs.Refused.{told};
 ghost use Rattle.checker.specs.Checked.{Checked, Kept};
 
 use crate::settle::settle;
-use answer::{Answer, Refusal, Rule};
+use answer::{Answer, Refusal};
 use reader::{Table, read};
-use report_rows::ROWS;
-use reporter::{RING, refused, report};
+use reporter::{lent, refused, report};
 
 // The check of an accepted table.
 fn check_accepted(table: Table<'_>, rows: &mut [u8], ring: &mut [u8]) -> Answer
@@ -36,9 +35,7 @@ fn try_check(table: &[u8], rows: &mut [u8], ring: &mut [u8]) -> Result<Answer, R
     ensures accepted { IfOk result (λ answer. Checked table.now rows.old ring.old answer rows.new ring.new) }
     ensures refused { IfErr result (λ r. Kept table.now rows.old ring.old r rows.new ring.new) }
 {
-    if rows.len() != ROWS || ring.len() != RING {
-        return Err(Rule::OtherLength.at(0));
-    }
+    lent(rows, ring)?;
     let accepted = read(table)?;
     Ok(check_accepted(accepted, rows, ring))
 }

@@ -33,6 +33,7 @@ pub extern "C" fn probe_read(table: &[u8]) -> u64
 {
     match read(table) {
         Ok(_) => 0,
+        // A cast, since there is no `From` of a usize.
         Err(refusal) => u64::from(refusal.number) + 256 * (refusal.place as u64),
     }
 }

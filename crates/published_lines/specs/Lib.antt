@@ -1,4 +1,2 @@
 -- What a run from a heard state leaves.
 pub mod RanFrom
--- The laws.
-pub mod PartLaws

@@ -1,10 +1,11 @@
 -- What an answer and the lent buffers say of a refusal or of a report, and that they say it in one way.
-use Rattle.std.specs.Prelude.{◌≡◌, refl, ◌≢◌, Bool, false, ◌||◌, List, [], ℕ, suc, zero, ◌<◌, get_or, length, replicate}
+use Rattle.std.specs.Prelude.{◌≡◌, refl, ◌≢◌, false, ◌||◌, List, [], ℕ, suc, zero, ◌<◌, get_or, length, replicate}
 use Rattle.std.proofs.Common.{sym, ◌∙◌, eq-eqb}
 use Rattle.std.proofs.Math.Path.{ap}
 use Rattle.std.proofs.Math.Option.{Option, none, some}
 use Rattle.std.proofs.lemmas.Bool.{not-true}
 use Rattle.lists.specs.Search.{any_below}
+use Rattle.lists.specs.Tests.{by_equal, none≢some}
 use Rattle.lists.specs.SearchLaws.{count_any, none_below}
 use Rattle.lists.specs.FillLaws.{tabulate_at}
 use Rattle.lists.specs.Fill.{padded, tabulate}
@@ -57,6 +58,12 @@ module _ (rows ring : List ℕ) where
   unfolding lent_refusal refused_if
   other_ring f = rw (second_other 1024 64 rows ring f)
 
+  lent_lengths : lent_refusal rows ring ≡ none → (length rows ≡ 1024) × (length ring ≡ 64)
+  lent_lengths e = (
+    by_equal (length rows) 1024 (λ q. q) (λ f. absurd (none≢some e (other_rows f))),
+    by_equal (length ring) 64 (λ q. q) (λ f. absurd (none≢some e (other_ring f))),
+  )
+
   pub lent_well : length rows ≡ 1024 → length ring ≡ 64 → lent_refusal rows ring ≡ none
   unfolding lent_refusal refused_if
   lent_well d e = rw (both_same 1024 64 rows ring d e)
@@ -91,14 +98,6 @@ unfolding meaning verdict_of ring_length_in
 found_some zero f = absurd (f refl)
 found_some (suc n) f = record { said = refl; length = refl }
 
--- the ring of marks and records
-pub ring_told : (t marks shown : List ℕ) {next ring_now : List ℕ} {stuck : List Bool} {size count : ℕ}
-    → stuck ≡ stuck_marks marks
-    → next ≡ next_numbers t stuck shown
-    → Ringed stuck next size count ring_now
-    → Ringed (stuck_marks marks) (next_numbers t (stuck_marks marks) shown) size count ring_now
-ring_told t marks shown p q r = rw (← p, ← q) r
-
 -- where nobody is stuck there is none
 pub ring_none : (marks next : List ℕ) {size : ℕ} {ring_now : List ℕ}
     → count_between 255 255 marks ≡ 0
@@ -114,7 +113,7 @@ ring_none marks next {size} e q =
     record { count = sym (ap length empty); ring = q ∙ ap (padded size 255) (sym empty) }
 
 -- the report of marks and records
-module _ (t marks shown : List ℕ) (stages : ℕ) (rows ring : List ℕ) (long : length rows ≡ 1024) (many : length ring ≡ 64) where
+module _ (t marks shown : List ℕ) (stages : ℕ) (rows ring : List ℕ) (well : lent_refusal rows ring ≡ none) where
   pub reported_shown : {v : Verdict} {a b l count : ℕ} {rows_now ring_now : List ℕ}
       → length marks ≡ 64
       → length shown ≡ 64
@@ -127,7 +126,7 @@ module _ (t marks shown : List ℕ) (stages : ℕ) (rows ring : List ℕ) (long 
       → Reported (lent_refusal rows ring) (shown_report t marks shown stages) rows ring
       (record { verdict = v; settled = a; stuck = b; stages = stages; longest = l }) rows_now ring_now
   unfolding rules.verdict unless says.numbers shown_report shown_ring
-  reported_shown m n r g f x y z = let well = lent_well rows ring long many in record {
+  reported_shown m n r g f x y z = let (long, many) = lent_lengths rows ring well in record {
     verdict = f.said ∙ ap verdict_of g.count ∙ rw well;
     numbers = rw (well, f.length ∙ g.count, x, y, z);
     rows = r ∙ rows_whole t marks shown rows long m n ∙ rw well;

@@ -1,24 +1,32 @@
-// How many vertices are settled or stuck, from their marks.
-ghost use Rattle.std.specs.Prelude.{◌≡◌, length};
-ghost use Rattle.reporter.specs.Showing.{count_between};
+// Who is settled or stuck, by the marks, and how many are.
+ghost use Rattle.std.specs.Prelude.{◌≡◌};
+ghost use Rattle.reporter.specs.Showing.{count_between, is_between};
 
-use crate::VERTICES;
-use slices::is_outside;
+use slices::{is_outside, value_or};
+use table_facts::VERTICES;
+
+// The mark of an absent vertex, and of a stuck one.
+const ABSENT: u8 = 254;
+
+pub(crate) const STUCK: u8 = 255;
+
+// Whether v, which is not vertex 0, has a mark from low to high.
+#[tactic(auto, unfolding(crate::specs::Showing::is_between))]
+pub(crate) fn is_between(low: u8, high: u8, marks: &[u8; VERTICES], v: usize) -> bool
+    ensures { result ≡ is_between low high marks.now v }
+{
+    v != 0 && !is_outside(low, high, value_or(marks, v, ABSENT))
+}
 
 // How many vertices but 0 have marks from low to high.
-pub(crate) fn count_between(low: u8, high: u8, marks: &[u8]) -> u8
-    requires { length marks.now ≡ 64 }
+pub(crate) fn count_between(low: u8, high: u8, marks: &[u8; VERTICES]) -> u8
     ensures { result ≡ count_between low high marks.now }
 {
     let mut count = 0;
-    let mut v = 1;
-    while v < VERTICES {
-        let here = v;
-        v += 1;
-        if is_outside(low, high, marks[here]) {
-            continue;
+    for v in 0..VERTICES {
+        if is_between(low, high, marks, v) {
+            count += 1;
         }
-        count += 1;
     }
     count
 }

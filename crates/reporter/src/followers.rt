@@ -1,67 +1,53 @@
 // Who is stuck, whom each stuck vertex follows, and the ring among them.
 ghost use Rattle.std.specs.Prelude.{◌≡◌, length};
 ghost use Rattle.ring.specs.Ring.{Ringed};
-ghost use Rattle.reporter.specs.Showing.{count_between, next_from, next_numbers, stuck_marks};
+ghost use Rattle.reporter.specs.Showing.{next_numbers, shown_next, stuck_marks};
 
-use crate::{STUCK, VERTICES};
+use crate::counts::{STUCK, is_between};
 use record_fields::next_at;
-use ring::{clear, find_ring};
+use ring::find_ring;
+use slices::value_or;
+use std::array;
+use table_facts::{NO_RECORD, VERTICES};
 
 // Which vertices are stuck; 0 never is.
-fn stuck_in(marks: &[u8]) -> [bool; 64]
-    requires { length marks.now ≡ 64 }
+fn stuck_in(marks: &[u8; VERTICES]) -> [bool; VERTICES]
     ensures { result ≡ stuck_marks marks.now }
 {
-    let mut stuck = [false; 64];
-    let mut v = 1;
-    while v < VERTICES {
-        stuck[v] = marks[v] == STUCK;
-        v += 1;
-    }
-    stuck
+    array::from_fn(|v| is_between(STUCK, STUCK, marks, v))
 }
 
-// Whom a vertex that shows record i follows where it is stuck; 0 for any other.
-fn next_from(table: &[u8], waits: bool, i: u16) -> u8
-    ensures { result ≡ next_from table.now waits i }
+// Whom v follows where it is stuck: the next hop of the record that it shows; 0 for any other.
+#[tactic(auto, unfolding(crate::specs::Showing::shown_next, crate::specs::Showing::next_from))]
+fn next_of(table: &[u8], stuck: &[bool; VERTICES], shown: &[u16; VERTICES], v: usize) -> u8
+    ensures { result ≡ shown_next table.now stuck.now shown.now v }
 {
-    if waits {
-        return next_at(table, i as usize);
+    if value_or(stuck, v, false) {
+        let i = value_or(shown, v, NO_RECORD);
+        next_at(table, usize::from(i))
+    } else {
+        0
     }
-    0
 }
 
 // Whom each stuck vertex follows.
-fn next_in(table: &[u8], stuck: &[bool], shown: &[u16]) -> [u8; 64]
-    requires { (length stuck.now ≡ 64) × (length shown.now ≡ 64) }
+fn next_in(table: &[u8], stuck: &[bool; VERTICES], shown: &[u16; VERTICES]) -> [u8; VERTICES]
     ensures { result ≡ next_numbers table.now stuck.now shown.now }
 {
-    let mut next = [0; 64];
-    let mut v = 0;
-    while v < VERTICES {
-        next[v] = next_from(table, stuck[v], shown[v]);
-        v += 1;
-    }
-    next
+    array::from_fn(|v| next_of(table, stuck, shown, v))
 }
 
-// Writes the ring, then 255, and answers its length; where nobody waits there is none to look for.
+// Writes the ring, then 255, and answers its length.
 pub(crate) fn write_ring(
     table: &[u8],
-    marks: &[u8],
-    shown: &[u16],
-    waiting: u8,
+    marks: &[u8; VERTICES],
+    shown: &[u16; VERTICES],
     ring: &mut [u8],
 ) -> u8
-    requires { (length marks.now ≡ 64) × (length shown.now ≡ 64) × (waiting ≡ count_between 255 255 marks.now) }
     ensures { Ringed (stuck_marks marks.now)
         (next_numbers table.now (stuck_marks marks.now) shown.now)
         (length ring.old) result ring.new }
 {
-    if waiting == 0 {
-        clear(ring);
-        return 0;
-    }
     let stuck = stuck_in(marks);
     let next = next_in(table, &stuck, shown);
     find_ring(&stuck, &next, ring)

@@ -5,27 +5,32 @@ mod counts;
 mod followers;
 
 ghost use Rattle.std.specs.Prelude.{◌≡◌};
+ghost use Rattle.answer.specs.Refused.{refused_in};
 ghost use Rattle.reporter.specs.Showing.{shown_report};
 ghost use Rattle.reporter.specs.Reported.{Found, Reported, lent_refusal, refusal_answer};
 
-use crate::counts::count_between;
 use crate::followers::write_ring;
-use answer::{Answer, Verdict};
+use crate::counts::{STUCK, count_between};
+use answer::{Answer, Refusal, Rule, Verdict};
 use report_rows::{ROWS, write_rows};
+use ring::clear;
 use table_facts::longest_hops;
 
 // The length of a lent ring: a byte for each vertex.
 pub const RING: usize = 64;
 
-// The refusal of a buffer of another length.
-pub const OTHER_LENGTH: u8 = 1;
-
-// The last mark that is a stage, and the mark of a stuck vertex.
+// The last mark that is a stage.
 const LAST_STAGE: u8 = 253;
 
-pub(crate) const STUCK: u8 = 255;
-
-pub(crate) const VERTICES: usize = 64;
+// Whether rows and ring are of their lengths, or the refusal where one is not.
+pub fn lent(rows: &[u8], ring: &[u8]) -> Result<(), Refusal>
+    ensures { refused_in result ≡ lent_refusal rows.now ring.now }
+{
+    if rows.len() != ROWS || ring.len() != RING {
+        return Err(Rule::OtherLength.at(0));
+    }
+    Ok(())
+}
 
 // A refusal's counts are all 0.
 pub fn refused(number: u8, place: usize) -> Answer
@@ -45,12 +50,14 @@ fn verdict_of(count: u8) -> Verdict
     ensures { Found result count }
 {
     if count == 0 {
-        return Verdict::Complete;
+        Verdict::Complete
+    } else {
+        Verdict::Stuck(count)
     }
-    Verdict::Stuck(count)
 }
 
-// Reports to rows of 1,024 bytes and a ring of 64; a call with another length is refused and changes no byte.
+// Reports to rows of 1,024 bytes and a ring of 64; a call with another length is refused and changes no byte. Where nobody is
+// stuck there is no ring to look for.
 pub fn report(
     table: &[u8],
     marks: [u8; 64],
@@ -63,19 +70,21 @@ pub fn report(
         (shown_report table.now marks shown stages)
         rows.old ring.old result rows.new ring.new }
 {
-    if rows.len() != ROWS {
-        return refused(OTHER_LENGTH, 0);
-    }
-    if ring.len() != RING {
-        return refused(OTHER_LENGTH, 0);
+    if let Err(refusal) = lent(rows, ring) {
+        return refused(refusal.number, refusal.place);
     }
     write_rows(table, &marks, &shown, rows);
-    let waiting = count_between(STUCK, STUCK, &marks);
-    let count = write_ring(table, &marks, &shown, waiting, ring);
+    let stuck = count_between(STUCK, STUCK, &marks);
+    let count = if stuck == 0 {
+        clear(ring);
+        0
+    } else {
+        write_ring(table, &marks, &shown, ring)
+    };
     Answer {
         verdict: verdict_of(count),
         settled: count_between(0, LAST_STAGE, &marks),
-        stuck: waiting,
+        stuck,
         stages,
         longest: longest_hops(table),
     }

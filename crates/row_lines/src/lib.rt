@@ -7,9 +7,8 @@ ghost use Rattle.text_writing.specs.Writes.{Writes};
 
 use record_fields::record_at;
 use slices::value_or;
+use table_facts::VERTICES;
 use text_writing::Writer;
-
-const LAST_VERTEX: usize = 63;
 
 // The first byte of a row that waits, and of one whose vertex is absent; otherwise it is the stage.
 const STUCK: u8 = 255;
@@ -64,7 +63,7 @@ fn put_row(writer: &mut Writer<'_>, v: usize, row: &[u8])
 pub fn put_rows(writer: &mut Writer<'_>, rows: &[u8])
     ensures { Writes (row_lines rows.now 63) writer.old writer.new }
 {
-    for v in 1..=LAST_VERTEX {
+    for v in 1..VERTICES {
         put_row(writer, v, record_at(rows, v));
     }
 }

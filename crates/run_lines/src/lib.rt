@@ -12,10 +12,8 @@ ghost use Rattle.run_lines.specs.Shown.{ranked_record, shown_lines, run_answer_t
 use answer::{Refusal, RunAnswer};
 use record_fields::path_at;
 use slices::value_or;
-use table_facts::{NO_RECORD, SLOTS, present_in, slots_of};
+use table_facts::{NO_RECORD, SLOTS, VERTICES, present_in, slots_of};
 use text_writing::Writer;
-
-const LAST_VERTEX: usize = 63;
 
 // `run steps 5 ups 4 downs 1 last 5 rounds 1`.
 fn put_numbers(writer: &mut Writer<'_>, answer: RunAnswer)
@@ -57,7 +55,7 @@ fn put_vertices(writer: &mut Writer<'_>, table: &[u8], choices: &[u8], sums: &[i
 {
     let named = present_in(table);
     let slots = slots_of(table);
-    for v in 1..=LAST_VERTEX {
+    for v in 1..VERTICES {
         if !named[v] {
             continue;
         }

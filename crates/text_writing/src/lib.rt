@@ -2,7 +2,7 @@
 // printed text shares.
 #![tactic(auto)]
 
-ghost use Rattle.std.specs.Prelude.{◌≡◌, ◌≤◌, ◌++◌, drop};
+ghost use Rattle.std.specs.Prelude.{◌≡◌, ◌++◌};
 ghost use Rattle.rules.specs.Text.{decimal, spaced, route_words, place_words, refused_line};
 ghost use Rattle.rules.specs.RunText.{signed};
 ghost use Rattle.text_writing.specs.Writes.{Writes};
@@ -13,21 +13,20 @@ const ZERO: u8 = 48;
 // So many digits hold every number that is printed.
 const DIGITS: usize = 10;
 
-// Writes the decimal digits of a number to the end of a buffer, the last ten at most, and answers the place of the first.
+// Writes the decimal digits of a number to the end of a buffer, the last ten at most, and answers them.
 // By hand, since `write!` promises its text only with an Ok, which no contract promises, and std's `decimal` has them all.
-fn write_digits(digits: &mut [u8; DIGITS], n: usize) -> usize
-    ensures inside { result ≤ 10 }
-    ensures digits { drop result digits.new ≡ decimal n }
+fn write_digits(digits: &mut [u8; DIGITS], n: usize) -> &[u8]
+    ensures { result.now ≡ decimal n }
 {
     let mut rest = n;
     for at in (0..DIGITS).rev() {
         digits[at] = ZERO + (rest % 10) as u8;
         rest /= 10;
         if rest == 0 {
-            return at;
+            return &digits[at..];
         }
     }
-    0
+    digits
 }
 
 // A lent buffer, and the place behind what is laid there.
@@ -53,8 +52,7 @@ impl Writer<'_> {
         ensures { Writes (decimal n) self.old self.new }
     {
         let mut digits = [0; DIGITS];
-        let from = write_digits(&mut digits, n);
-        self.put(&digits[from..]);
+        self.put(write_digits(&mut digits, n));
     }
 
     // A number with its sign.

@@ -1,20 +1,23 @@
 -- `reporter::report` meets its contract: a buffer of another length is refused, and what is written is what marks and records show.
 -- Assumes nothing.
-use native.Mathlib.Omega.{arith}
-use Rattle.reporter.specs.Reported.{other_rows, other_ring, reported_refused, reported_shown}
+use Rattle.std.proofs.Common.{sym, ◌∙◌, arith, length}
+use Rattle.ring.specs.Ring.{Ringed}
+use Rattle.reporter.specs.Showing.{next_numbers, stuck_marks}
+use Rattle.reporter.specs.Reported.{reported_refused, reported_shown, ring_none}
 use Rattle.reporter.proofs.report.Goals as goal
+use Rattle.reporter.proofs.report.Goals.{then-stuck-eq0, else-stuck-eq0}
 
-pub returns-then-rows-ne-ROWS : goal.returns-then-rows-ne-ROWS
-returns-then-rows-ne-ROWS c =
-    reported_refused 1 0 (other_rows c.args.rows.now _ (λ q. omega arith)) c.refused.ensures
-
-pub returns-then-ring-ne-RING : goal.returns-then-ring-ne-RING
-returns-then-ring-ne-RING c =
-    reported_refused 1 0 (other_ring _ c.args.ring.now (λ q. omega arith)) c.refused-then-ring-ne-RING.ensures
+pub returns-in-Err : goal.returns-in-Err
+returns-in-Err c = reported_refused _ _ (sym c.in-Err.ensures) c.refused.ensures
 
 pub returns : goal.returns
 returns c =
-    reported_shown _ _ _ _ c.args.rows.now c.args.ring.now c.if-rows-ne-ROWS.false c.if-ring-ne-RING.false
-    (omega arith)
-    (omega arith) c.write_rows.ensures c.write_ring-count.ensures c.verdict_of.ensures
-    c.count_between.ensures c.count_between-waiting.ensures c.longest_hops.ensures
+    let marks = c.args.marks in
+    let ringed : Ringed (stuck_marks marks) (next_numbers c.args.table.now (stuck_marks marks) c.args.shown) (length c.args.ring.now) c.if-stuck-eq0.count c.if-stuck-eq0.ring
+    = elim c.if-stuck-eq0.branch [
+      | then-stuck-eq0 w ↦ rw (w.ring-is, w.count-is) (ring_none _ _ (sym c.count_between-stuck.ensures ∙ w.if-stuck-eq0.true) w.clear.ensures)
+      | else-stuck-eq0 w ↦ rw (w.ring-is, w.count-is) w.write_ring-count.ensures
+    ] in
+    reported_shown _ _ _ _ c.args.rows.now c.args.ring.now (sym c.in_default.ensures) (omega arith) (omega arith)
+    c.write_rows.ensures ringed c.verdict_of.ensures c.count_between.ensures c.count_between-stuck.ensures
+    c.longest_hops.ensures

@@ -12,6 +12,5 @@ use Rattle.checker.proofs.settle.start_marks.Goals as goal
 
 pub returns : goal.returns
 returns c =
-    let named = c.args.present in
-    tabulated _ _ (λ i. start_mark (λ u. get_or named i false) i) (λ i y q made. search rules) 0 _ 64 c.from_fn.ensures.items
+    tabulated _ _ (λ i. start_mark (λ u. get_or c.args.present i false) i) (λ i y q made. search rules) 0 _ 64 c.from_fn.ensures.items
     ∙ tabulate_ext _ _ 64 (λ v h. start_same _ _ v refl)

@@ -1,22 +1,10 @@
--- `reporter::followers::next_in` meets its contract: below v stand the numbers that follow.
+-- `reporter::followers::next_in` meets its contract: the numbers that follow, each made alone.
 -- Assumes nothing.
-use mathlib.Core.Path.{refl, sym, ◌∙◌}
-use Prim.Native.Nat.{ℕ}
-use native.Mathlib.Omega.{arith}
-use lib.ListN.{length-set, length-replicate}
-use Rattle.lists.specs.FillLaws.{tabulate_none, fill_more, fill_end}
-use Rattle.reporter.specs.ShowingLaws.{next_shown_lem}
+use Rattle.std.proofs.Common.{rules}
+use Rattle.slices.specs.FromFn.{tabulated}
+use Rattle.reporter.specs.Showing.{shown_next}
 use Rattle.reporter.proofs.followers.next_in.Goals as goal
 
-pub loop-v-init : goal.loop-v-init
-loop-v-init c = (omega arith, length-replicate {A = ℕ} 64 0, sym (tabulate_none _))
-
-pub loop-v-preserved : goal.loop-v-preserved
-loop-v-preserved c =
-    let l = c.loop-v in
-    let given = c.requires in
-    let here = next_shown_lem _ _ _ l.v _ given.0 given.1 (omega arith) c.next_from.ensures in
-    (omega arith, length-set l.next l.v _ ∙ l.invariant.1, fill_more _ _ _ l.v _ l.invariant.2 (omega arith) refl here)
-
 pub returns : goal.returns
-returns c = let l = c.loop-v in fill_end _ _ _ _ l.invariant.2 (sym l.invariant.1) (omega arith)
+returns c =
+    tabulated _ _ (shown_next c.args.table.now c.args.stuck.now c.args.shown.now) (λ i y q k. search rules) 0 _ 64 c.from_fn.ensures.items
