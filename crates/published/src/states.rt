@@ -5,7 +5,8 @@ ghost use Rattle.theorems.specs.Published.{row_three, changes_at, some_step_chan
 use machine::step;
 use table_facts::{PAIRS, VERTICES};
 
-// Row 3 of Table 4: 1, 3 and 4 have heard (0), 2 has heard (3 0) and (4 0), and 4 has heard (2 3 0).
+// Row 3 of Table 4: 1, 3 and 4 have heard (0), 2 has heard (3 0) and (4 0), and 4 has heard (2 3 0). Each line is an
+// offset and the rank there: a loop over a list of such pairs would be no plainer.
 pub fn row_three() -> [u8; PAIRS]
     ensures { result ≡ row_three }
 {
@@ -25,7 +26,8 @@ fn changes_at(table: &[u8], heard: &[u8; PAIRS], k: usize) -> bool
     ensures { result ≡ changes_at table.now heard.now k }
 {
     let mut after = *heard;
-    step(
+    // What the step answers is not asked: the state that it leaves tells whether it was changed.
+    let _ = step(
         table,
         &mut after,
         (k / VERTICES) as u8,
