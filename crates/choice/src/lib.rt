@@ -21,8 +21,9 @@ fn is_heard(heard: &[u8], v: u8, u: u8, asked: u8) -> bool
     asked != 0 && value_or(heard, 64 * v as usize + u as usize, 0) == asked
 }
 
-// The first of v's slots, in rank order, whose rest is what v last heard from the next hop, or none at the end. A named form
-// of 01-scope.md: a loop over the owner's slots that yields the found slot by `break`.
+// The first of v's slots, in rank order, whose rest is what v last heard from the next hop, or none at the end: by the named
+// form of 01-scope.md, a loop over the owner's slots that yields the found slot by `break`. `nexts` and `asked` stay two
+// parameters: a state and a schedule are judged by the first alone, so a struct would be put together at each call.
 fn choose(nexts: &[u8; 16], asked: &[u8; 16], heard: &[u8], v: u8) -> Option<u8>
     ensures { found_byte result ≡ chosen_slot nexts.now asked.now heard.now v }
 {

@@ -12,7 +12,8 @@ use record_fields::path_at;
 use slices::{same_parts, value_or};
 use table_facts::{NO_RECORD, slots_of};
 
-// The place of a path among those of a row of slots, from 1; 0 where it is not there.
+// The place of a path among those of a row of slots, from 1; 0 where it is not there, as `place_in` of the rules has it and
+// a heard state holds it.
 fn place_of(table: &[u8], path: &[u8], row: &[u16; 16]) -> u8
     ensures { result ≡ place_in path.now (slot_paths table.now row.now) }
 {
