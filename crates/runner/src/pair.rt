@@ -3,11 +3,13 @@ ghost use Rattle.stepper.specs.Working.{ruled};
 ghost use Rattle.runner.specs.Taking.{Takes, TakenIn};
 
 use crate::sums::add;
+use choice::Slots;
 use stepper::{Pair, hear};
 use tally::{Counts, movement};
 
 // Works a pair, the step with that number from 1: what the speaker says is stored, the listener chooses, and its movement is
-// added to its sum and counted.
+// added to its sum and counted. `nexts` and `asked` are two tables, since the schedule is judged by the first before the
+// second is made.
 pub(crate) fn hear_pair(
     nexts: &[[u8; 16]; 64],
     asked: &[[u8; 16]; 64],
@@ -29,7 +31,11 @@ pub(crate) fn hear_pair(
         return counts;
     }
     let old = choices[v];
-    let new = hear(&nexts[v], &asked[v], heard, pair, said);
+    let slots = Slots {
+        nexts: &nexts[v],
+        asked: &asked[v],
+    };
+    let new = hear(slots, heard, pair, said);
     choices[v] = new;
     add(sums, v, movement(old, new));
     counts.counted(number, old, new)

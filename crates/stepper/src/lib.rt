@@ -10,7 +10,7 @@ ghost use Rattle.stepper.specs.Stepped.{Stepped};
 
 use admission::{HEARD_LENGTH, bad_offset};
 use answer::{Refusal, Rule};
-use choice::choice_byte;
+use choice::Slots;
 use pairs::{is_listening, next_rows};
 use reader::{Table, read};
 use rests::asked_row;
@@ -35,11 +35,11 @@ impl Pair {
 }
 
 // Stores what the speaker says, and answers the byte of the listener's choice then.
-pub fn hear(nexts: &[u8; 16], asked: &[u8; 16], heard: &mut [u8], pair: Pair, said: u8) -> u8
-    ensures { Heard nexts.now asked.now heard.old (ruled pair) said result heard.new }
+pub fn hear(slots: Slots<'_>, heard: &mut [u8], pair: Pair, said: u8) -> u8
+    ensures { Heard slots.entry.nexts.now slots.entry.asked.now heard.old (ruled pair) said result heard.new }
 {
     put_at(heard, pair.offset(), said);
-    choice_byte(nexts, asked, heard, pair.listener)
+    slots.choice_byte(heard, pair.listener)
 }
 
 // Works a listening pair of an accepted table, and answers the listener's movement.
@@ -55,11 +55,17 @@ fn work_pair(
     ensures heard { heard.new ≡ rules.step (paths_of table.entry.bytes.now) heard.old (ruled pair) }
 {
     let (v, u) = (pair.listener as usize, pair.speaker as usize);
-    let asked = asked_row(table.bytes, slots, slots[v]);
-    let asking = asked_row(table.bytes, slots, slots[u]);
-    let old = choice_byte(&nexts[v], &asked, heard, pair.listener);
-    let said = choice_byte(&nexts[u], &asking, heard, pair.speaker);
-    let new = hear(&nexts[v], &asked, heard, pair, said);
+    let listening = Slots {
+        nexts: &nexts[v],
+        asked: &asked_row(table.bytes, slots, slots[v]),
+    };
+    let speaking = Slots {
+        nexts: &nexts[u],
+        asked: &asked_row(table.bytes, slots, slots[u]),
+    };
+    let old = listening.choice_byte(heard, pair.listener);
+    let said = speaking.choice_byte(heard, pair.speaker);
+    let new = hear(listening, heard, pair, said);
     movement(old, new)
 }
 

@@ -1,8 +1,8 @@
--- `choice::choose` meets its contract: no slot before k is empty, and nothing that one asks for was heard.
+-- `choice::Slots::choose` meets its contract: no slot before k is empty, and nothing that one asks for was heard.
 -- Assumes nothing.
 use native.Mathlib.Omega.{arith}
 use Rattle.choice.specs.ChoosingLaws.{searched_none, choose_empty, choose_end, choose_hit, choose_next}
-use Rattle.choice.proofs.choose.Goals as goal
+use Rattle.choice.proofs.Slots.choose.Goals as goal
 
 pub loop-k-init : goal.loop-k-init
 loop-k-init c = (omega arith, searched_none _ _ _ _)

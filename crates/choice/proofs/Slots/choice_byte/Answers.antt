@@ -1,8 +1,8 @@
--- `choice::choice_byte` meets its contract: the destination chooses (0), every other vertex what is found.
+-- `choice::Slots::choice_byte` meets its contract: the destination chooses (0), every other vertex what is found.
 -- Assumes nothing.
 use Rattle.std.proofs.Common.{◌∙◌, add-one, arith}
 use Rattle.choice.specs.ChoosingLaws.{chosen_small, byte_destination, byte_chosen}
-use Rattle.choice.proofs.choice_byte.Goals as goal
+use Rattle.choice.proofs.Slots.choice_byte.Goals as goal
 
 pub returns-then-v-eq0 : goal.returns-then-v-eq0
 returns-then-v-eq0 c = byte_destination _ _ _ _ c.if-v-eq0.true
