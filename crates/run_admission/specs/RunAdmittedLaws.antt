@@ -1,8 +1,8 @@
 -- Each way through what is judged before a run.
 use Rattle.std.specs.Prelude as std
 use Rattle.std.specs.Prelude.{Some, None, Result, Ok, Err, ◌≡◌, ◌≢◌, true, false, List, ℕ, ◌/◌, ◌%◌, ◌<◌, ◌≤◌, length, ℤ, ltb}
-use Rattle.std.proofs.Math.Path.{sym, ap}
-use Rattle.std.proofs.Common.{◌∙◌, arith, lt-ltb, le-ltb}
+use Rattle.std.proofs.Math.Path.{sym}
+use Rattle.std.proofs.Common.{arith, lt-ltb, le-ltb}
 use Rattle.std.proofs.Math.Option.{none, some}
 use Rattle.lists.specs.Search.{outside}
 use Rattle.lists.specs.Tests.{none≢some, or_left, or_right, neither, is_inside, above_out}
@@ -14,7 +14,7 @@ use Rattle.answer.specs.declared.Refusal as answer
 use Rattle.answer.specs.Refused.{told}
 use Rattle.admission.specs.Judged.{Surveyed}
 use Rattle.admission.specs.JudgedLaws.{survey_shape, survey_rows, survey_valid, survey_bad}
-use Rattle.run_admission.specs.ScheduleWalk.{stopped_at, Walked}
+use Rattle.run_admission.specs.ScheduleWalk.{Walked}
 use Rattle.run_admission.specs.ScheduleWalkLaws.{pairs_none, pairs_some}
 use Rattle.run_admission.specs.RunAdmitted.{RunAdmitted}
 
@@ -60,13 +60,13 @@ module _ {t heard : List ℕ} {nexts : List (List ℕ)} {at : std.Option ℕ} (y
       pair_refused k e =
           admitted_not (record { number = 14; place = k })
           (run_refused_pair t heard s sums y.long m y.accepted (survey_valid y valid) (whole_fine s even short) k
-          (pairs_some (paths_of t) (present t) (survey_shape y) nexts (survey_rows y) s w.bad k e))
+          (pairs_some (paths_of t) (present t) (survey_shape y) nexts (survey_rows y) s _ w.bad k e))
 
       -- all pairs listen
       pub all_admitted : (rounds : ℕ) → walked ≡ Ok rounds → RunAdmitted t heard s sums (Ok (record { nexts = nexts; rounds = rounds }))
       all_admitted rounds e =
           let listens : first_bad_pair (paths_of t) (pairs_in s) ≡ none =
-          pairs_none (paths_of t) (present t) (survey_shape y) nexts (survey_rows y) s w.bad rounds e in
+          pairs_none (paths_of t) (present t) (survey_shape y) nexts (survey_rows y) s _ w.bad rounds e in
           let fine = run_accepted t heard s sums y.long m y.accepted (survey_valid y valid) (whole_fine s even short) listens in
           record {
             judged = sym fine;

@@ -223,7 +223,7 @@ module _ {nexts : List (List ℕ)} {s : List ℕ} {all i : ℕ} {stamps : List �
 
 -- the first bad pair over the slots of a table is the rules'
 module _ (paths : ℕ → List Path) (present : ℕ → Bool) (shape : Shaped paths present) (nexts : List (List ℕ)) (leads : Rows paths nexts)
-    (s : List ℕ) {walked : Result ℕ ℕ} (found : stopped_at walked ≡ bad_pair nexts s) where
+    (s : List ℕ) (walked : Result ℕ ℕ) (found : stopped_at walked ≡ bad_pair nexts s) where
   first_bad : first_bad_pair paths (pairs_in s) ≡ stopped_at walked
   unfolding bad_pair first_bad_pair unheard
   first_bad =
