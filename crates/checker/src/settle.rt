@@ -3,10 +3,10 @@ ghost use Rattle.std.specs.Prelude.{◌≡◌, false, get_or};
 ghost use Rattle.lists.specs.Fill.{tabulate};
 ghost use Rattle.checker.specs.AfterStages.{start_mark, Ended};
 
-use judge::{ABSENT, NO_RECORD, Standing, WAITING, stage};
+use judge::{ABSENT, Standing, WAITING, stage};
 use reader::Table;
 use std::array;
-use table_facts::{present_in, slots_of};
+use table_facts::{NO_RECORD, present_in, slots_of};
 
 // The mark of vertex 0: it is settled at stage 0.
 const ORIGIN: u8 = 0;

@@ -1,13 +1,14 @@
 // The compatibility judgement and one stage, for any bytes.
 #![tactic(auto)]
 
-ghost use Rattle.std.specs.Prelude.{◌≡◌, position};
+ghost use Rattle.std.specs.Prelude.{◌≡◌, ◌<◌, position};
 ghost use Rattle.rules.specs.Greedy.{compatible};
 ghost use Rattle.judge.specs.Standing.{is_in, held_path, settled_by, first_compatible, enters_by, is_judged};
 ghost use Rattle.judge.specs.Staged.{Staged};
 
 use record_fields::{next_at, path_at};
 use slices::{same_parts, value_or};
+use table_facts::{NO_RECORD, SLOTS, VERTICES};
 
 // A mark below this one is the stage at which the vertex settled.
 pub const ABSENT: u8 = 254;
@@ -15,17 +16,12 @@ pub const ABSENT: u8 = 254;
 // The mark of a present vertex that is not settled.
 pub const WAITING: u8 = 255;
 
-// An empty slot, and the record of a vertex that shows none.
-pub const NO_RECORD: u16 = 65535;
-
-// How many vertices there are.
-pub const VERTICES: usize = 64;
-
-// A mark for each vertex (its stage, 254 absent, 255 waiting) and the record of the path that it holds or waits for.
+// A mark for each vertex (its stage, 254 absent, 255 waiting) and the record of the path that it holds or waits for,
+// 65,535 for none. Two arrays, since `report` and `write_rows` take them apart, and marks alone are compared.
 #[derive(Clone, Copy)]
 pub struct Standing {
-    pub marks: [u8; 64],
-    pub shown: [u16; 64],
+    pub marks: [u8; VERTICES],
+    pub shown: [u16; VERTICES],
 }
 
 impl Standing {
@@ -40,9 +36,10 @@ impl Standing {
     // Whether a vertex is judged in this stage: it is present and unsettled.
     #[tactic(auto, unfolding(crate::specs::Standing::is_judged))]
     fn is_judged(&self, v: usize) -> bool
+        requires { v < 64 }
         ensures { result ≡ is_judged self.now.marks v }
     {
-        value_or(&self.marks, v, ABSENT) == WAITING
+        self.marks[v] == WAITING
     }
 
     // The path that a settled vertex holds; vertex 0 has (0), which no record is.
@@ -75,7 +72,7 @@ impl Standing {
     }
 
     // The record of the best compatible path among a vertex's slots; the first empty slot ends the search.
-    fn best_record(&self, table: &[u8], slots: [u16; 16]) -> Option<u16>
+    fn best_record(&self, table: &[u8], slots: [u16; SLOTS]) -> Option<u16>
         ensures { result ≡ first_compatible table.now self.now.marks self.now.shown slots }
     {
         let passes = |i: &u16| self.is_compatible(table, path_at(table, usize::from(*i)));
@@ -99,13 +96,18 @@ impl Standing {
 }
 
 // One stage: all are judged against the standing before it, and those that qualify enter together.
-pub fn stage(table: &[u8], slots: [[u16; 16]; 64], before: Standing, number: u8) -> Standing
+pub fn stage(
+    table: &[u8],
+    slots: [[u16; SLOTS]; VERTICES],
+    before: Standing,
+    number: u8,
+) -> Standing
     ensures { Staged table.now slots before number result }
 {
     let mut after = before;
-    for v in 0..VERTICES {
+    for (v, best_first) in slots.iter().enumerate() {
         if before.is_judged(v) {
-            let best = before.best_record(table, slots[v]);
+            let best = before.best_record(table, *best_first);
             after.shown[v] = best.unwrap_or(NO_RECORD);
             if before.enters(table, best) {
                 after.marks[v] = number;

@@ -10,7 +10,8 @@ ghost use Rattle.theorems.specs.Published.{some_step_changes};
 
 use check_text::check_text;
 use published::states::some_step_changes;
-use published_lines::{part, run_from, title_text};
+use published_lines::{part, title_text};
+use run_text::run_from;
 use table_facts::PAIRS;
 
 // So many bytes hold every text that the published program shows.

@@ -8,11 +8,10 @@ ghost use Rattle.report_rows.specs.ShownRows.{shown_row, shown_rows};
 
 use record_fields::{path_at, rank_at};
 use slices::fill_padded;
+use table_facts::VERTICES;
 
 // The length of all rows: 16 bytes for each of 64 vertices.
 pub const ROWS: usize = 1024;
-
-const VERTICES: usize = 64;
 
 // How many bytes a row has.
 const ROW: usize = 16;

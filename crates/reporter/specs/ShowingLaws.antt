@@ -19,4 +19,4 @@ module _ (test : ℕ → Bool) where
     count_skip q = come ∙ sym (rw add-one (count_out test v (sym look ∙ q)))
 
     pub count_more : b ≡ true → n + 1 ≡ count_below test (v + 1)
-    count_more q = rw (add-one, come) (sym (rw add-one (count_in test v (sym look ∙ q))))
+    count_more q = rw (add-one n, come) (sym (rw add-one (count_in test v (sym look ∙ q))))

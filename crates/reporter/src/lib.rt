@@ -1,4 +1,5 @@
-// The report that a mark and a record number for each vertex show, for any bytes: the answer, a row for each vertex and the ring.
+// The report that a mark and a record number for each vertex show, for any bytes: the answer, a row for each vertex and
+// the ring.
 #![tactic(auto)]
 
 mod counts;
@@ -9,8 +10,8 @@ ghost use Rattle.answer.specs.Refused.{refused_in};
 ghost use Rattle.reporter.specs.Showing.{shown_report};
 ghost use Rattle.reporter.specs.Reported.{Found, Reported, lent_refusal, refusal_answer};
 
-use crate::followers::write_ring;
 use crate::counts::{STUCK, count_between};
+use crate::followers::write_ring;
 use answer::{Answer, Refusal, Rule, Verdict};
 use report_rows::{ROWS, write_rows};
 use ring::clear;
@@ -56,8 +57,8 @@ fn verdict_of(count: u8) -> Verdict
     }
 }
 
-// Reports to rows of 1,024 bytes and a ring of 64; a call with another length is refused and changes no byte. Where nobody is
-// stuck there is no ring to look for.
+// Reports to rows of 1,024 bytes and a ring of 64; a call with another length is refused and changes no byte. Where
+// nobody is stuck there is no ring to look for.
 pub fn report(
     table: &[u8],
     marks: [u8; 64],

@@ -26,7 +26,8 @@ fn lowest_marked(marks: &[bool]) -> Option<u8>
     None
 }
 
-// Follows from the start until a vertex repeats, and answers the closed part; where the vertices walked fill the buffer, nothing.
+// Follows from the start until a vertex repeats, and answers the closed part; nothing, where the vertices walked fill
+// the buffer.
 fn walk<'a>(next: &[u8], start: u8, seen: &'a mut [u8]) -> &'a mut [u8]
     ensures part { result.now ≡ closed_part (next_in next.now) (length seen.old) [] start }
     ensures within { length result.now ≤ length seen.old }

@@ -1,8 +1,8 @@
 -- Each way through what is judged before a run.
 use Rattle.std.specs.Prelude as std
 use Rattle.std.specs.Prelude.{Some, None, Result, Ok, Err, ◌≡◌, ◌≢◌, true, false, List, ℕ, ◌/◌, ◌%◌, ◌<◌, ◌≤◌, length, ℤ, ltb}
-use Rattle.std.proofs.Math.Path.{sym, ap}
-use Rattle.std.proofs.Common.{◌∙◌, arith, lt-ltb, le-ltb}
+use Rattle.std.proofs.Math.Path.{sym}
+use Rattle.std.proofs.Common.{arith, lt-ltb, le-ltb}
 use Rattle.std.proofs.Math.Option.{none, some}
 use Rattle.lists.specs.Search.{outside}
 use Rattle.lists.specs.Tests.{none≢some, or_left, or_right, neither, is_inside, above_out}
@@ -14,8 +14,8 @@ use Rattle.answer.specs.declared.Refusal as answer
 use Rattle.answer.specs.Refused.{told}
 use Rattle.admission.specs.Judged.{Surveyed}
 use Rattle.admission.specs.JudgedLaws.{survey_shape, survey_rows, survey_valid, survey_bad}
-use Rattle.run_admission.specs.ScheduleWalk.{stopped_at, Walked}
-use Rattle.run_admission.specs.ScheduleWalkLaws.{bad_pair_told}
+use Rattle.run_admission.specs.ScheduleWalk.{Walked}
+use Rattle.run_admission.specs.ScheduleWalkLaws.{pairs_none, pairs_some}
 use Rattle.run_admission.specs.RunAdmitted.{RunAdmitted}
 
 -- refused
@@ -55,19 +55,18 @@ module _ {t heard : List ℕ} {nexts : List (List ℕ)} {at : std.Option ℕ} (y
         admitted_not (record { number = 13; place = 0 }) (run_refused_schedule t heard s sums y.long m y.accepted (survey_valid y valid) f)
 
     module _ (even : length s % 2 ≡ 0) (short : length s ≤ 32768) {walked : Result ℕ ℕ} (w : Walked nexts s walked) where
-      first_bad : first_bad_pair (paths_of t) (pairs_in s) ≡ stopped_at walked
-      first_bad = sym (bad_pair_told (paths_of t) (present t) (survey_shape y) nexts (survey_rows y) s) ∙ sym w.bad
-
       -- a pair does not listen
       pub pair_refused : (k : ℕ) → walked ≡ Err k → RunAdmitted t heard s sums (Err (record { number = 14; place = k }))
       pair_refused k e =
           admitted_not (record { number = 14; place = k })
-          (run_refused_pair t heard s sums y.long m y.accepted (survey_valid y valid) (whole_fine s even short) k (first_bad ∙ ap stopped_at e))
+          (run_refused_pair t heard s sums y.long m y.accepted (survey_valid y valid) (whole_fine s even short) k
+          (pairs_some (paths_of t) (present t) (survey_shape y) nexts (survey_rows y) s _ w.bad k e))
 
       -- all pairs listen
       pub all_admitted : (rounds : ℕ) → walked ≡ Ok rounds → RunAdmitted t heard s sums (Ok (record { nexts = nexts; rounds = rounds }))
       all_admitted rounds e =
-          let listens : first_bad_pair (paths_of t) (pairs_in s) ≡ none = first_bad ∙ ap stopped_at e in
+          let listens : first_bad_pair (paths_of t) (pairs_in s) ≡ none =
+          pairs_none (paths_of t) (present t) (survey_shape y) nexts (survey_rows y) s _ w.bad rounds e in
           let fine = run_accepted t heard s sums y.long m y.accepted (survey_valid y valid) (whole_fine s even short) listens in
           record {
             judged = sym fine;

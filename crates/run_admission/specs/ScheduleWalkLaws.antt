@@ -1,6 +1,6 @@
 -- Laws of the walk over a schedule: a pair's number, the start, a pair that does not listen, one that does, the end.
 use Rattle.std.specs.Prelude as std
-use Rattle.std.specs.Prelude.{Some, None, Ok, Err, ◌≡◌, refl, ◌≢◌, Bool, false, List, [], ◌∷◌, ℕ, suc, ◌+◌, ◌*◌, ◌/◌, ◌<◌, ◌≤◌, length, get_or, drop, replicate, eqb, ltb}
+use Rattle.std.specs.Prelude.{Some, None, Result, Ok, Err, ◌≡◌, refl, ◌≢◌, Bool, false, List, [], ◌∷◌, ℕ, suc, ◌+◌, ◌*◌, ◌/◌, ◌<◌, ◌≤◌, length, get_or, drop, replicate, eqb, ltb}
 use Rattle.std.proofs.Math.Path.{sym, ap}
 use Rattle.std.proofs.Common.{◌∙◌, arith, length-set}
 use Rattle.std.proofs.Math.Bool.{true, not}
@@ -27,7 +27,7 @@ use Rattle.tally.specs.Stamps.{Numbered, Activated, open_round, left_after}
 use Rattle.tally.specs.StampLaws.{stamped_none, closed_on, stamped_on}
 use Rattle.run_admission.specs.Tallied.{tally_at}
 use Rattle.run_admission.specs.TalliedLaws.{tally_start, tally_on, tally_end}
-use Rattle.run_admission.specs.ScheduleWalk.{number_in, unheard, bad_pair, Rounded, Walking, Walked}
+use Rattle.run_admission.specs.ScheduleWalk.{number_in, unheard, bad_pair, stopped_at, Rounded, Walking, Walked}
 
 -- the number of a pair
 
@@ -222,13 +222,19 @@ module _ {nexts : List (List ℕ)} {s : List ℕ} {all i : ℕ} {stamps : List �
       }
 
 -- the first bad pair over the slots of a table is the rules'
-pub bad_pair_told : (paths : ℕ → List Path) (present : ℕ → Bool)
-    → Shaped paths present
-    → (nexts : List (List ℕ))
-    → Rows paths nexts
-    → (s : List ℕ)
-    → bad_pair nexts s ≡ first_bad_pair paths (pairs_in s)
-unfolding bad_pair first_bad_pair unheard
-bad_pair_told paths present shape nexts leads s =
-    first_in_ext (unheard nexts) (λ i p. not (listens paths p.listener p.speaker)) (pairs_in s)
-    (record { listener = 0; speaker = 0 }) 0 (λ k h. ap not (hears_told paths present shape nexts leads _ _))
+module _ (paths : ℕ → List Path) (present : ℕ → Bool) (shape : Shaped paths present) (nexts : List (List ℕ)) (leads : Rows paths nexts)
+    (s : List ℕ) (walked : Result ℕ ℕ) (found : stopped_at walked ≡ bad_pair nexts s) where
+  first_bad : first_bad_pair paths (pairs_in s) ≡ stopped_at walked
+  unfolding bad_pair first_bad_pair unheard
+  first_bad =
+      sym (first_in_ext (unheard nexts) (λ i p. not (listens paths p.listener p.speaker)) (pairs_in s)
+      (record { listener = 0; speaker = 0 }) 0 (λ k h. ap not (hears_told paths present shape nexts leads _ _)))
+      ∙ sym found
+
+  -- a walk to the end: the schedule listens throughout
+  pub pairs_none : (rounds : ℕ) → walked ≡ Ok rounds → first_bad_pair paths (pairs_in s) ≡ none
+  pairs_none rounds e = first_bad ∙ ap stopped_at e
+
+  -- one that stopped, at the first that does not
+  pub pairs_some : (pair : ℕ) → walked ≡ Err pair → first_bad_pair paths (pairs_in s) ≡ some pair
+  pairs_some pair e = first_bad ∙ ap stopped_at e

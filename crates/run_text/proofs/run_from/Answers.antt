@@ -1,8 +1,8 @@
--- `published_lines::run_from` meets its contract: what the run's answer prints is the text of the run.
+-- `run_text::run_from` meets its contract: what the run's answer prints is the text of the run.
 -- Assumes nothing.
 use Rattle.text_writing.specs.LayLaws.{laid_as}
 use Rattle.run_text.specs.PrintedRunLaws.{printed_run}
-use Rattle.published_lines.proofs.run_from.Goals as goal
+use Rattle.run_text.proofs.run_from.Goals as goal
 
 pub returns : goal.returns
 returns c =
