@@ -7,23 +7,20 @@ use published::tables::{bad_gadget, bleedin_edge, di_safe_gree, disagree};
 use published_plan::show_example;
 
 // Row 2 of Table 2 needs its two pairs at one moment; one by one they end in a stable state of Table 3.
-const DISAGREE: &[u8] =
-    b"0c\x00\x00DISAGREE of 001: Figure 1b, Tables 2 and 3, one by one\n\
+const DISAGREE: &[u8] = b"0c\x00\x00DISAGREE of 001: Figure 1b, Tables 2 and 3, one by one\n\
       0r\x00\x04from zeros, row 1, pairs\n\
       .e\x0c\x04row 2, 2 first, pairs\n\
       0r\x00\x04from zeros, row 1, pairs\n\
       .e\x04\x04row 2, 1 first, pairs\n";
 
-const BAD_GADGET: &[u8] =
-    b"0c\x00\x00BAD GADGET of 001: Figure 1a, by its well-known lists\n\
+const BAD_GADGET: &[u8] = b"0c\x00\x00BAD GADGET of 001: Figure 1a, by its well-known lists\n\
       0r\x00\x0cround 1, pairs\n\
       .r\x0c\x0cround 2, pairs\n\
       .e\x18\x0cround 3, pairs\n";
 
 // Row 3 of Table 4 needs its two pairs at one moment: neither order of them one by one gives its state. From that state
 // the rows 4 to 9 follow one by one, and then row 2 again.
-const BLEEDIN_EDGE: &[u8] =
-    b"0c\x00\x00BLEEDIN-EDGE of 001: Figure 3a, Tables 4 and 5\n\
+const BLEEDIN_EDGE: &[u8] = b"0c\x00\x00BLEEDIN-EDGE of 001: Figure 3a, Tables 4 and 5\n\
       0.\x00\x00Table 4 from zeros, one by one\n\
       .r\x00\x06row 1, pairs\n\
       .r\x06\x02row 2, pairs\n\
@@ -41,8 +38,7 @@ const BLEEDIN_EDGE: &[u8] =
       0.\x00\x00Table 5, by a round from zeros\n\
       .e\x26\x14round, pairs\n";
 
-const DI_SAFE_GREE: &[u8] =
-    b"0c\x00\x00DI-SAFE-GREE of 001: Figure 3b, Table 6 and section 4\n\
+const DI_SAFE_GREE: &[u8] = b"0c\x00\x00DI-SAFE-GREE of 001: Figure 3b, Table 6 and section 4\n\
       0r\x00\x08direct paths, pairs\n\
       .r\x08\x04then 2 1 0, pairs\n\
       .e\x0c\x04then 2 3 0, pairs\n";
