@@ -47,8 +47,8 @@ pub extern "C" fn probe_present(table: &[u8], v: u64) -> u64
     u64::from(value_or(&present_in(table), v as usize, false))
 }
 
-// 1 where the pair, 64 times the listener plus the speaker, listens by the slots, which in an accepted table is where it
-// is a listening pair; otherwise 0.
+// 1 where the pair, 64 times the listener plus the speaker, listens by the slots, which in an accepted table is where
+// it is a listening pair; otherwise 0.
 #[unsafe(no_mangle)]
 pub extern "C" fn probe_listens(table: &[u8], pair: u64) -> u64
     ensures { result ≡ mark_of (listens_in (nexts_of table.now)) 4096 pair }
