@@ -151,7 +151,7 @@ impl<'a> Entry<'a> {
         false
     }
 
-    // The first rule that the record breaks, if it breaks one.
+    // The first rule that the record breaks, if it breaks one: a test for each, since each asks something of its own.
     #[tactic(auto, using(crate::specs::FaultLaws::fault_by_rules))]
     pub(crate) fn fault(self) -> Result<(), Rule>
         requires { Orderly self.table.now self.i }

@@ -85,7 +85,8 @@ fn put_run(
     }
 }
 
-// Lays the text of a run's answer over the front of a buffer, as far as it fits, and answers how many bytes were laid.
+// Lays the text of a run's answer over the front of a buffer, as far as it fits, and answers how many bytes were laid. The
+// table, the choices and the sums stay apart, as callers have them.
 pub fn print_run(
     answer: Result<RunAnswer, Refusal>,
     table: &[u8],
