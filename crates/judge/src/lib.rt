@@ -17,7 +17,7 @@ pub const ABSENT: u8 = 254;
 pub const WAITING: u8 = 255;
 
 // A mark for each vertex (its stage, 254 absent, 255 waiting) and the record of the path that it holds or waits for,
-// 65,535 for none. Two arrays, since `report` and `write_rows` take them apart, and marks alone are compared.
+// 65,535 for none: two arrays of numbers, as `report` and `write_rows` want them; and marks alone are compared.
 #[derive(Clone, Copy)]
 pub struct Standing {
     pub marks: [u8; VERTICES],

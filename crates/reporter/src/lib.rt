@@ -33,7 +33,7 @@ pub fn lent(rows: &[u8], ring: &[u8]) -> Result<(), Refusal>
     Ok(())
 }
 
-// A refusal's counts are all 0.
+// A refusal's counts are all 0; it is told as `Verdict` tells it, by number and place.
 pub fn refused(number: u8, place: usize) -> Answer
     ensures { result ≡ refusal_answer number place }
 {

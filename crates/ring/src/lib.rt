@@ -8,7 +8,7 @@ ghost use Rattle.ring.specs.Ring.{Ringed, next_in, IsLeast, LowestMarked, NoneMa
 
 use slices::{fill_padded, value_or};
 
-// Vertices are numbers below this one.
+// Vertices are bytes below this one; `table_facts` has it as the size of arrays.
 const VERTICES: u8 = 64;
 
 // What stands behind the vertices in a filled buffer.
