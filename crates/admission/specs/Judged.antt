@@ -1,15 +1,12 @@
 -- What is judged before the first store, by where the slots lead.
 use Rattle.std.specs.Prelude.{ℕ, ◌-◌, ◌%◌, ◌≡◌, Bool, true, false, not, ◌&&◌, ◌||◌, List, [], length, get_or, eqb, ltb}
+use Rattle.std.specs.Prelude as std
+use Rattle.std.specs.Prelude.{Some, None}
 use Rattle.std.proofs.Math.Option.{Option, none, some}
 use Rattle.lists.specs.Search.{first_in}
 use Rattle.rules.specs.Refusals.{refusal}
 use Rattle.pairs.specs.SlotPaths.{slotted}
 use Rattle.pairs.specs.NextHops.{Rows, listens_in}
-
--- the place that was found, or another number where none was
-unfoldable pub place_or : ℕ → Option ℕ → ℕ
-place_or n none = n
-place_or n (some k) = k
 
 -- whether u can speak of the path with the byte b, from 1: the destination of one, every other vertex of those in its slots
 unfoldable pub speaks_in : List (List ℕ) → ℕ → ℕ → Bool
@@ -19,13 +16,18 @@ speaks_in nexts u b = elim (eqb u 0) [ true ↦ eqb b 1 | false ↦ not (ltb 16 
 unfoldable pub bad_heard : List (List ℕ) → ℕ → ℕ → Bool
 bad_heard nexts k b = elim (eqb b 0) [ true ↦ false | false ↦ not (listens_in nexts k) || not (speaks_in nexts (k % 64) b) ]
 
--- the lowest bad offset, the state's length where none is
-unfoldable pub bad_offset : List (List ℕ) → List ℕ → ℕ
-bad_offset nexts heard = place_or (length heard) (first_in (bad_heard nexts) 0 heard)
+-- the lowest bad offset, none where the state is valid
+unfoldable pub bad_offset : List (List ℕ) → List ℕ → Option ℕ
+bad_offset nexts heard = first_in (bad_heard nexts) 0 heard
+
+-- an offset that the code has found, or none
+abbrev pub offset_in : std.Option ℕ → Option ℕ
+offset_in None = none
+offset_in (Some k) = some k
 
 -- an accepted table and a heard state of the right length, with where the slots lead and the lowest bad offset
-pub record Surveyed (t heard : List ℕ) (nexts : List (List ℕ)) (at : ℕ) : Type 0 where
+pub record Surveyed (t heard : List ℕ) (nexts : List (List ℕ)) (at : std.Option ℕ) : Type 0 where
   pub accepted : refusal t ≡ none
   pub long : length heard ≡ 4096
   pub leads : Rows (slotted t) nexts
-  pub found : at ≡ bad_offset nexts heard
+  pub found : offset_in at ≡ bad_offset nexts heard

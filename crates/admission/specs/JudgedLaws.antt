@@ -1,13 +1,15 @@
 -- Laws of what is judged before the first store: each walk of the code, and that the answers are those of the rules.
 use Rattle.std.specs.Prelude.{◌≡◌, ◌≢◌, Bool, true, false, not, List, [], ℕ, ◌-◌, ◌+◌, ◌/◌, ◌%◌, ◌<◌, ◌≤◌, length, get_or, drop, eqb, ltb}
-use Rattle.std.proofs.Math.Path.{refl, sym}
+use Rattle.std.specs.Prelude as std
+use Rattle.std.specs.Prelude.{Some, None}
+use Rattle.std.proofs.Math.Path.{sym}
 use Rattle.std.proofs.Common.{ap, ◌∙◌}
-use Rattle.std.proofs.Math.Option.{Option, none, some}
+use Rattle.std.proofs.Math.Option.{none, some}
 use native.Mathlib.Omega.{arith}
 use borrow.Author.Tests.{lt-ltb, le-ltb, eq-eqb, ne_eqb}
 use Rattle.lists.specs.Search.{first_in}
-use Rattle.lists.specs.Tests.{by_equal, by_less, by_option}
-use Rattle.lists.specs.ListLaws.{first_in_under, first_in_ext, seek_hit, seek_end}
+use Rattle.lists.specs.Tests.{by_equal, by_less}
+use Rattle.lists.specs.ListLaws.{first_in_ext, seek_hit, seek_end}
 use Rattle.rules.specs.Table.{Path, paths_of, present}
 use Rattle.rules.specs.Refusals.{refusal}
 use Rattle.rules.specs.Machine.{speaks, bad_at, bad_byte, heard_fault}
@@ -18,29 +20,7 @@ use Rattle.pairs.specs.SlotPaths.{slotted}
 use Rattle.pairs.specs.SlotPathLaws.{rows_told}
 use Rattle.pairs.specs.NextHops.{Rows, hears_from, listens_in}
 use Rattle.pairs.specs.NextHopLaws.{hears_other, all_listens, row_small, row_empty}
-use Rattle.admission.specs.Judged.{place_or, speaks_in, bad_heard, bad_offset, Surveyed}
-
--- a place that was found, and none
-
-pub place_some : (n : ℕ) (o : Option ℕ) (k : ℕ) → o ≡ some k → place_or n o ≡ k
-unfolding place_or
-place_some n o k e = rw e
-
-pub place_none : (n : ℕ) (o : Option ℕ) → o ≡ none → place_or n o ≡ n
-unfolding place_or
-place_none n o e = rw e
-
--- the answer of a search through a whole list tells whether it found something
-module _ {A : Type 0} (test : ℕ → A → Bool) (l : List A) (n r : ℕ) (long : length l ≡ n) (found : r ≡ place_or n (first_in test 0 l)) where
-  pub found_none : r ≡ n → first_in test 0 l ≡ none
-  found_none e =
-      by_option (first_in test 0 l) (λ q. q)
-      (λ k q. absurd (omega (arith, place_some n (first_in test 0 l) k q, first_in_under test l 0 k q)))
-
-  pub found_some : r ≢ n → first_in test 0 l ≡ some r
-  found_some f =
-      by_option (first_in test 0 l) (λ q. absurd (f (found ∙ place_none n (first_in test 0 l) q)))
-      (λ k q. q ∙ ap some (sym (found ∙ place_some n (first_in test 0 l) k q)))
+use Rattle.admission.specs.Judged.{speaks_in, bad_heard, bad_offset, offset_in, Surveyed}
 
 -- whether a vertex can speak of a byte
 
@@ -86,13 +66,13 @@ module _ (nexts : List (List ℕ)) (k b : ℕ) where
 -- the search for the lowest bad offset, which has come to k
 module _ (nexts : List (List ℕ)) (heard : List ℕ) (k : ℕ)
     (come : first_in (bad_heard nexts) k (drop k heard) ≡ first_in (bad_heard nexts) 0 heard) where
-  pub offset_hit : k < length heard → bad_heard nexts k (get_or heard k 0) ≡ true → k ≡ bad_offset nexts heard
+  pub offset_hit : k < length heard → bad_heard nexts k (get_or heard k 0) ≡ true → some k ≡ bad_offset nexts heard
   unfolding bad_offset
-  offset_hit h e = sym (place_some _ _ k (seek_hit (bad_heard nexts) heard 0 k _ come h e))
+  offset_hit h e = sym (seek_hit (bad_heard nexts) heard 0 k _ come h e)
 
-  pub offset_end : k ≡ length heard → k ≡ bad_offset nexts heard
+  pub offset_end : length heard ≤ k → none ≡ bad_offset nexts heard
   unfolding bad_offset
-  offset_end e = e ∙ sym (place_none _ _ (seek_end (bad_heard nexts) heard 0 k _ come (omega arith)))
+  offset_end h = sym (seek_end (bad_heard nexts) heard 0 k _ come h)
 
 -- the answers over the slots of a table are the rules'
 module _ (paths : ℕ → List Path) (present : ℕ → Bool) (shaped : Shaped paths present) (nexts : List (List ℕ))
@@ -122,52 +102,45 @@ module _ (paths : ℕ → List Path) (present : ℕ → Bool) (shaped : Shaped p
       slot_empty : (u k : ℕ) → u < 64 → length (paths u) ≤ k → k < 16 → get_or (get_or nexts u []) k 0 ≡ 255
       slot_empty u k h m l = row_empty paths present shaped nexts leads u k h m l
 
-  module _ (heard : List ℕ) (r : ℕ) (long : length heard ≡ 4096) (found : r ≡ bad_offset nexts heard) where
-    same_fault : first_in (bad_heard nexts) 0 heard ≡ heard_fault paths heard
-    unfolding heard_fault bad_byte bad_at bad_heard
-    same_fault =
-        first_in_ext (bad_heard nexts) (bad_byte paths) heard 0 0
-        (λ k h. let z : 0 + k ≡ k = omega arith in
-        rw z (by_equal (get_or heard k 0) 0
-        (λ e. rw (e, bad_heard, bad_at))
-        (λ e. rw (
-          ne_eqb (get_or heard k 0) 0 e,
-          bad_heard,
-          bad_at,
-          all_listens paths present shaped nexts leads k,
-          spoken_told (k % 64) (get_or heard k 0) (omega arith) e,
-        ))))
-
-    -- no bad offset: the state is valid
-    fault_none : r ≡ 4096 → heard_fault paths heard ≡ none
-    unfolding bad_offset
-    fault_none e = sym same_fault ∙ found_none _ heard (length heard) r refl found (e ∙ sym long)
-
-    -- otherwise it is the lowest
-    fault_some : r ≢ 4096 → heard_fault paths heard ≡ some r
-    unfolding bad_offset
-    fault_some f = sym same_fault ∙ found_some _ heard (length heard) r refl found (λ e. f (e ∙ long))
+  -- the lowest bad offset is the rules'
+  fault_told : (heard : List ℕ) → bad_offset nexts heard ≡ heard_fault paths heard
+  unfolding bad_offset heard_fault bad_byte bad_at bad_heard
+  fault_told heard =
+      first_in_ext (bad_heard nexts) (bad_byte paths) heard 0 0
+      (λ k h. let z : 0 + k ≡ k = omega arith in
+      rw z (by_equal (get_or heard k 0) 0
+      (λ e. rw (e, bad_heard, bad_at))
+      (λ e. rw (
+        ne_eqb (get_or heard k 0) 0 e,
+        bad_heard,
+        bad_at,
+        all_listens paths present shaped nexts leads k,
+        spoken_told (k % 64) (get_or heard k 0) (omega arith) e,
+      ))))
 
 -- a survey tells whether the state is valid
 
-pub surveyed : {t heard : List ℕ} {nexts : List (List ℕ)} {at : ℕ}
+pub surveyed : {t heard : List ℕ} {nexts : List (List ℕ)} {at : std.Option ℕ}
     → refusal t ≡ none
     → length heard ≡ 4096
     → Rows (slotted t) nexts
-    → at ≡ bad_offset nexts heard
+    → offset_in at ≡ bad_offset nexts heard
     → Surveyed t heard nexts at
 surveyed e n l f = record { accepted = e; long = n; leads = l; found = f }
 
-module _ {t heard : List ℕ} {nexts : List (List ℕ)} {at : ℕ} (y : Surveyed t heard nexts at) where
+module _ {t heard : List ℕ} {nexts : List (List ℕ)} {at : std.Option ℕ} (y : Surveyed t heard nexts at) where
   pub survey_shape : Shaped (paths_of t) (present t)
   survey_shape = shaped t y.accepted
 
   pub survey_rows : Rows (paths_of t) nexts
   survey_rows = rows_told t y.accepted nexts y.leads
 
-  -- the state is valid, or it has its lowest bad offset
-  pub survey_valid : at ≡ 4096 → heard_fault (paths_of t) heard ≡ none
-  survey_valid = fault_none (paths_of t) (present t) survey_shape nexts survey_rows heard at y.long y.found
+  survey_fault : heard_fault (paths_of t) heard ≡ offset_in at
+  survey_fault = sym (fault_told (paths_of t) (present t) survey_shape nexts survey_rows heard) ∙ sym y.found
 
-  pub survey_bad : at ≢ 4096 → heard_fault (paths_of t) heard ≡ some at
-  survey_bad = fault_some (paths_of t) (present t) survey_shape nexts survey_rows heard at y.long y.found
+  -- the state is valid, or it has its lowest bad offset
+  pub survey_valid : at ≡ None → heard_fault (paths_of t) heard ≡ none
+  survey_valid e = survey_fault ∙ ap offset_in e
+
+  pub survey_bad : (k : ℕ) → at ≡ Some k → heard_fault (paths_of t) heard ≡ some k
+  survey_bad k e = survey_fault ∙ ap offset_in e

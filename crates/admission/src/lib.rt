@@ -2,7 +2,7 @@
 #![tactic(auto)]
 
 ghost use Rattle.std.specs.Prelude.{◌≡◌, ◌<◌, ◌≤◌};
-ghost use Rattle.admission.specs.Judged.{speaks_in, bad_heard, bad_offset};
+ghost use Rattle.admission.specs.Judged.{speaks_in, bad_heard, bad_offset, offset_in};
 
 use pairs::{NOBODY, is_listening};
 use table_facts::{SLOTS, VERTICES};
@@ -40,16 +40,14 @@ fn is_bad(nexts: &[[u8; 16]; 64], k: usize, b: u8) -> bool
     !can_speak(nexts, k % VERTICES, b as usize)
 }
 
-// The lowest bad offset, the state's length where none is.
-pub fn bad_offset(nexts: &[[u8; 16]; 64], heard: &[u8]) -> usize
-    ensures { result ≡ bad_offset nexts.now heard.now }
+// The lowest bad offset, if there is one.
+pub fn bad_offset(nexts: &[[u8; 16]; 64], heard: &[u8]) -> Option<usize>
+    ensures { offset_in result ≡ bad_offset nexts.now heard.now }
 {
-    let mut k = 0;
-    while k < heard.len() {
-        if is_bad(nexts, k, heard[k]) {
-            return k;
+    for (k, b) in heard.iter().enumerate() {
+        if is_bad(nexts, k, *b) {
+            return Some(k);
         }
-        k += 1;
     }
-    k
+    None
 }

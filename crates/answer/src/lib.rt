@@ -50,7 +50,8 @@ impl Rule {
     }
 }
 
-// Complete, stuck with the ring's length, or refused with number and place.
+// Complete, stuck with the ring's length, or refused with number and place: a named form of 01-scope.md, as is the struct
+// beside it, so no `Result` stands here.
 #[derive(Clone, Copy)]
 pub enum Verdict {
     Complete,

@@ -46,6 +46,7 @@ pub fn check_for_c(table: &[u8], rows: &mut [u8], ring: &mut [u8], numbers: &mut
             write_check(numbers, count, answer);
             0
         }
+        // A cast, since a `try_from` would have an error to handle that never comes.
         Verdict::Refused(number, place) => code_of(number, place as u32),
     }
 }

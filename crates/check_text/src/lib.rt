@@ -6,18 +6,16 @@ ghost use Rattle.text_writing.specs.Lay.{Laid};
 
 use check_lines::print;
 use checker::check;
-
-const ROWS_BYTES: usize = 1024;
-
-const RING_BYTES: usize = 64;
+use report_rows::ROWS;
+use reporter::RING;
 
 // Lays the check's text over the front of the lent text, as far as it fits, and answers how many bytes that is; 16,384
 // hold every text.
 pub fn check_text(table: &[u8], text: &mut [u8]) -> usize
     ensures { Laid 0 (check_text table.now) text.old text.new result }
 {
-    let mut rows = [0; ROWS_BYTES];
-    let mut ring = [0; RING_BYTES];
+    let mut rows = [0; ROWS];
+    let mut ring = [0; RING];
     let answer = check(table, &mut rows, &mut ring);
     print(answer, &rows, &ring, text)
 }

@@ -1,5 +1,5 @@
 -- The steps of the loop over the stages.
-use Rattle.std.specs.Prelude.{◌≡◌, ◌≢◌, refl, Bool, false, List, ℕ, suc, ◌+◌, ◌<◌, ◌≤◌, min, get_or, replicate}
+use Rattle.std.specs.Prelude.{◌≡◌, refl, Bool, true, false, List, ℕ, suc, ◌+◌, ◌<◌, ◌≤◌, min, get_or, replicate}
 use Rattle.std.proofs.Common.{sym, ap, ◌∙◌, arith, add-one}
 use Rattle.std.proofs.Math.Path.{fun_ext}
 use Rattle.std.proofs.Math.Option.{none}
@@ -9,6 +9,8 @@ use Rattle.rules.specs.Table.{records, paths_of, present, slots_of}
 use Rattle.rules.specs.Refusals.{refusal}
 use Rattle.rules.specs.Greedy.{settled, stage_count}
 use Rattle.laws.specs.GreedyLaws.{settled_end}
+use Rattle.lists.specs.Search.{same}
+use Rattle.lists.specs.ListLaws.{same_eq, differs}
 use Rattle.judge.specs.declared.Standing.{Standing}
 use Rattle.judge.specs.Standing.{mark_after}
 use Rattle.judge.specs.Staged.{Staged}
@@ -53,21 +55,24 @@ module _ {t : List ℕ} (e : refusal t ≡ none) where
       rw begun (stands_start t e)
 
   module _ {k : ℕ} {now next : Standing} (st : Stands t k now.marks now.shown) {slots : List (List ℕ)}
-      (s : slots ≡ slots_of t (min (records t) 1008)) (m : k ≤ stage_count (paths_of t) (present t)) (staged : Staged t slots now (k + 1) next) where
+      (s : slots ≡ slots_of t (min (records t) 1008)) (m : k ≤ stage_count (paths_of t) (present t)) (staged : Staged t slots now (k + 1) next)
+      {x : Bool} (look : x ≡ same now.marks next.marks) where
     following : next.marks ≡ tabulate (mark_after t slots now.marks now.shown (suc k)) 64
     following = rw add-one at staged.marks
 
     -- it goes on while a stage changes a mark
-    pub settle_more : now.marks ≢ next.marks
-        → (k + 1 ≤ stage_count (paths_of t) (present t)) × Stands t (k + 1) next.marks next.shown
-    settle_more f =
-        let other : now.marks ≢ tabulate (mark_after t slots now.marks now.shown (suc k)) 64 = λ z. f (z ∙ sym following) in
+    pub settle_more : x ≡ false → (k + 1 ≤ stage_count (paths_of t) (present t)) × Stands t (k + 1) next.marks next.shown
+    settle_more q =
+        let other : now.marks ≡ tabulate (mark_after t slots now.marks now.shown (suc k)) 64 → ⊥
+        = λ z. differs now.marks next.marks (sym look ∙ q) (z ∙ sym following) in
         (rw add-one (other_counted e st s m other), rw (add-one, following, staged.shown) (stands_next e st s m))
 
     -- and has ended where one changes none
-    pub settle_end : now.marks ≡ next.marks → Ended t next.marks next.shown k
+    pub settle_end : x ≡ true → Ended t next.marks next.shown k
     settle_end q =
-        let c = same_counted e st s m (q ∙ following) in
+        let unchanged : now.marks ≡ tabulate (mark_after t slots now.marks now.shown (suc k)) 64
+        = same_eq now.marks next.marks (sym look ∙ q) ∙ following in
+        let c = same_counted e st s m unchanged in
         record {
           counted = c;
           stands = stands_end t next.marks next.shown (rw (← c, following, staged.shown) (stands_next e st s m));

@@ -1,5 +1,5 @@
 -- The search through a vertex's slots finds its choice.
-use Rattle.std.specs.Prelude.{◌≡◌, refl, ◌≢◌, Bool, true, false}
+use Rattle.std.specs.Prelude.{◌≡◌, refl, ◌≢◌, Bool, true, false, Some, None}
 use Rattle.std.proofs.Math.Path.{sym}
 use Rattle.std.proofs.Common.{ap, ◌∙◌, arith, eq-eqb, ne_eqb}
 use mathlib.Core.List.{List, [], ◌∷◌, map}
@@ -23,18 +23,8 @@ use Rattle.pairs.specs.NextHops.{next_row, slot_to}
 use Rattle.pairs.specs.NextHopLaws.{there, slot_hit, slot_later, slot_small, next_at, own_count}
 use Rattle.rests.specs.Rests.{asked_for, asked_row}
 use Rattle.rests.specs.HeardRestLaws.{asked_heard}
-use Rattle.choice.specs.declared.Found.{Found}
-use Rattle.choice.specs.declared.Found.TheVariants.{Slot, Nothing}
 use Rattle.choice.specs.Choosing.{hears_slot, chosen_slot, choice_byte, choices_by}
 use Rattle.choice.specs.FoundSlot.{found_byte}
-
-pub found_nothing : (f : Found) → f ≡ Nothing → 0 ≡ found_byte f
-unfolding found_byte
-found_nothing f e = sym (ap found_byte e)
-
-pub found_slot : (f : Found) (k : ℕ) → f ≡ Slot k → k + 1 ≡ found_byte f
-unfolding found_byte
-found_slot f k e = omega (arith, ap found_byte e)
 
 module _ (nexts asked heard : List ℕ) (v : ℕ) where
   abbrev hears : ℕ → Bool
@@ -52,19 +42,19 @@ module _ (nexts asked heard : List ℕ) (v : ℕ) where
   searched_none = let z : count - 0 ≡ count = omega arith in record { filled = refl; come = ap (first_from hears 0) z }
 
   module _ (k : ℕ) (s : Searched k) where
-    nothing : count ≤ k → found_byte Nothing ≡ chosen_slot nexts asked heard v
-    unfolding chosen_slot found_byte
+    nothing : count ≤ k → found_byte None ≡ chosen_slot nexts asked heard v
+    unfolding chosen_slot
     nothing h = rw (search_end hears count k _ s.come h, chosen_slot)
 
-    pub choose_empty : k < 16 → get_or nexts k 0 ≡ 255 → found_byte Nothing ≡ chosen_slot nexts asked heard v
+    pub choose_empty : k < 16 → get_or nexts k 0 ≡ 255 → found_byte None ≡ chosen_slot nexts asked heard v
     choose_empty h e = nothing (omega (arith, slot_hit nexts 255 k s.filled h e))
 
-    pub choose_end : k ≡ 16 → found_byte Nothing ≡ chosen_slot nexts asked heard v
+    pub choose_end : k ≡ 16 → found_byte None ≡ chosen_slot nexts asked heard v
     choose_end h = nothing (omega (arith, slot_small nexts 255 _ refl))
 
     module _ (h : k < 16) (f : get_or nexts k 0 ≢ 255) (b : Bool) (told : b ≡ hears k) where
-      pub choose_hit : b ≡ true → found_byte (Slot k) ≡ chosen_slot nexts asked heard v
-      unfolding chosen_slot found_byte
+      pub choose_hit : b ≡ true → found_byte (Some k) ≡ chosen_slot nexts asked heard v
+      unfolding chosen_slot
       choose_hit e = rw (search_hit hears count k _ s.come (slot_later nexts 255 k s.filled h f) (sym told ∙ e), chosen_slot)
 
       pub choose_next : b ≡ false → Searched (k + 1)

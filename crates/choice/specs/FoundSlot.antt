@@ -1,9 +1,7 @@
 -- What the search through a vertex's slots found, as the byte that is stored for it.
-use Rattle.std.specs.Prelude.{ℕ, suc}
-use Rattle.choice.specs.declared.Found.{Found}
-use Rattle.choice.specs.declared.Found.TheVariants.{Slot, Nothing}
+use Rattle.std.specs.Prelude.{ℕ, suc, Option, Some, None}
 
 -- the rank of the slot, which is its number from 1, or 0 for none
-unfoldable pub found_byte : Found → ℕ
-found_byte (Slot k) = suc k
-found_byte Nothing = 0
+abbrev pub found_byte : Option ℕ → ℕ
+found_byte (Some k) = suc k
+found_byte None = 0

@@ -6,10 +6,10 @@ ghost use Rattle.rules.specs.Answers.{choices_in};
 ghost use Rattle.stepper.specs.Stepped.{Stepped};
 ghost use Rattle.runner.specs.Ran.{Ran};
 
-use answer::{RunAnswer, StepAnswer};
+use answer::{Refusal, RunAnswer};
 use choice::choice_bytes;
 use pairs::next_hops;
-use reader::{Reading, read};
+use reader::read;
 use rests::asked_bytes;
 use runner::run_schedule;
 use stepper::step_pair;
@@ -18,17 +18,16 @@ use stepper::step_pair;
 pub fn choices(table: &[u8], heard: &[u8]) -> [u8; 64]
     ensures { result ≡ choices_in table.now heard.now }
 {
-    let reading = read(table);
-    let Reading::Refused(_, _) = reading else {
-        let nexts = next_hops(table);
-        let asked = asked_bytes(table);
-        return choice_bytes(&nexts, &asked, heard);
+    let Ok(accepted) = read(table) else {
+        return [0; 64];
     };
-    [0; 64]
+    let nexts = next_hops(accepted.bytes);
+    let asked = asked_bytes(accepted.bytes);
+    choice_bytes(&nexts, &asked, heard)
 }
 
 // Stores the speaker's present choice, and answers the listener's movement; a refused call changes no byte.
-pub fn step(table: &[u8], heard: &mut [u8], listener: u8, speaker: u8) -> StepAnswer
+pub fn step(table: &[u8], heard: &mut [u8], listener: u8, speaker: u8) -> Result<i32, Refusal>
     ensures { Stepped table.now heard.old (record { listener = listener; speaker = speaker }) result
         heard.new }
 {
@@ -36,7 +35,12 @@ pub fn step(table: &[u8], heard: &mut [u8], listener: u8, speaker: u8) -> StepAn
 }
 
 // Works a schedule, and answers what it counted and each vertex's sum; a refused call changes no byte.
-pub fn run(table: &[u8], heard: &mut [u8], schedule: &[u8], sums: &mut [i32]) -> RunAnswer
+pub fn run(
+    table: &[u8],
+    heard: &mut [u8],
+    schedule: &[u8],
+    sums: &mut [i32],
+) -> Result<RunAnswer, Refusal>
     ensures { Ran table.now heard.old schedule.now sums.old result
         heard.new sums.new }
 {

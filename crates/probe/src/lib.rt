@@ -16,15 +16,8 @@ use check_text::check_text;
 use pairs::{is_listening, next_hops};
 use reader::read;
 use run_text::run_text;
-use table_facts::{longest_hops, present_in, slots_of};
-
-const VERTICES: u64 = 64;
-
-const PAIRS: u64 = 4096;
-
-const SLOTS: u64 = 16;
-
-const NO_RECORD: u64 = 65535;
+use slices::value_or;
+use table_facts::{NO_RECORD, PAIRS, VERTICES, longest_hops, present_in, slots_of};
 
 // 0 where the table is accepted, otherwise the refusal's number plus 256 times its place.
 #[unsafe(no_mangle)]
@@ -33,6 +26,7 @@ pub extern "C" fn probe_read(table: &[u8]) -> u64
 {
     match read(table) {
         Ok(_) => 0,
+        // A cast, since there is no `From` of a usize.
         Err(refusal) => u64::from(refusal.number) + 256 * (refusal.place as u64),
     }
 }
@@ -42,7 +36,7 @@ pub extern "C" fn probe_read(table: &[u8]) -> u64
 pub extern "C" fn probe_longest(table: &[u8]) -> u64
     ensures { result ≡ longest table.now }
 {
-    longest_hops(table) as u64
+    u64::from(longest_hops(table))
 }
 
 // 1 where v is a vertex that is present, otherwise 0.
@@ -50,31 +44,21 @@ pub extern "C" fn probe_longest(table: &[u8]) -> u64
 pub extern "C" fn probe_present(table: &[u8], v: u64) -> u64
     ensures { result ≡ mark_of (present table.now) 64 v }
 {
-    if VERTICES <= v {
-        return 0;
-    }
-    let marks = present_in(table);
-    marks[v as usize] as u64
+    u64::from(value_or(&present_in(table), v as usize, false))
 }
 
-// 1 where the pair, 64 times the listener plus the speaker, listens by the slots, which in an accepted table is where it
-// is a listening pair; otherwise 0.
+// 1 where the pair, 64 times the listener plus the speaker, listens by the slots, which in an accepted table is where
+// it is a listening pair; otherwise 0.
 #[unsafe(no_mangle)]
 pub extern "C" fn probe_listens(table: &[u8], pair: u64) -> u64
     ensures { result ≡ mark_of (listens_in (nexts_of table.now)) 4096 pair }
 {
+    let pair = pair as usize;
     if PAIRS <= pair {
         return 0;
     }
     let nexts = next_hops(table);
-    is_listening(&nexts, (pair / VERTICES) as u8, (pair % VERTICES) as u8) as u64
-}
-
-// A function of its own, since the cast of an element in place would ask again that the element fits.
-fn wide(number: u16) -> u64
-    ensures { result ≡ number }
-{
-    number as u64
+    u64::from(is_listening(&nexts, (pair / VERTICES) as u8, (pair % VERTICES) as u8))
 }
 
 // The record in slot k of v, 65,535 where the slot is empty or there is none.
@@ -82,15 +66,11 @@ fn wide(number: u16) -> u64
 pub extern "C" fn probe_slot(table: &[u8], v: u64, k: u64) -> u64
     ensures { result ≡ slot_at table.now v k }
 {
-    if VERTICES <= v {
-        return NO_RECORD;
-    }
-    if SLOTS <= k {
-        return NO_RECORD;
-    }
     let slots = slots_of(table);
-    let row = slots[v as usize];
-    wide(row[k as usize])
+    let Some(row) = slots.get(v as usize) else {
+        return u64::from(NO_RECORD);
+    };
+    u64::from(value_or(row, k as usize, NO_RECORD))
 }
 
 // The check program's text, laid over the front of the lent text as far as it fits, and how many bytes that is.

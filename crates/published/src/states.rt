@@ -3,10 +3,10 @@ ghost use Rattle.std.specs.Prelude.{◌≡◌, ◌<◌};
 ghost use Rattle.theorems.specs.Published.{row_three, changes_at, some_step_changes};
 
 use machine::step;
-use slices::same_parts;
 use table_facts::{PAIRS, VERTICES};
 
-// Row 3 of Table 4: 1, 3 and 4 have heard (0), 2 has heard (3 0) and (4 0), and 4 has heard (2 3 0).
+// Row 3 of Table 4: 1, 3 and 4 have heard (0), 2 has heard (3 0) and (4 0), and 4 has heard (2 3 0). Each line is an
+// offset and the rank there: a loop over a list of such pairs would be no plainer.
 pub fn row_three() -> [u8; PAIRS]
     ensures { result ≡ row_three }
 {
@@ -21,30 +21,24 @@ pub fn row_three() -> [u8; PAIRS]
 }
 
 // Whether a step at the pair with that offset changes the state.
-fn changes_at(table: &[u8], heard: [u8; PAIRS], k: usize) -> bool
+fn changes_at(table: &[u8], heard: &[u8; PAIRS], k: usize) -> bool
     requires { k < 4096 }
-    ensures { result ≡ changes_at table.now heard k }
+    ensures { result ≡ changes_at table.now heard.now k }
 {
-    let mut after = heard;
-    step(
+    let mut after = *heard;
+    // What the step answers is not asked: the state that it leaves tells whether it was changed.
+    let _ = step(
         table,
         &mut after,
         (k / VERTICES) as u8,
         (k % VERTICES) as u8,
     );
-    !same_parts(&after, &heard)
+    after != *heard
 }
 
 // Whether a step at some pair of vertices changes the state: each is really made.
 pub fn some_step_changes(table: &[u8], heard: [u8; PAIRS]) -> bool
     ensures { result ≡ some_step_changes table.now heard }
 {
-    let mut k = 0;
-    while k < PAIRS {
-        if changes_at(table, heard, k) {
-            return true;
-        }
-        k += 1;
-    }
-    false
+    (0..PAIRS).any(|k| changes_at(table, &heard, k))
 }

@@ -13,55 +13,113 @@ ghost use Rattle.published_plan.specs.PlanLines.{lines_in};
 use published::states::row_three;
 use published_lines::part;
 use published_show::{show_check, show_rest, show_run, show_title};
-use slices::byte_at;
+use slices::value_or;
 use table_facts::PAIRS;
 
-// What a line shows below its title; answers the state that it leaves.
-fn show_below<P: Print>(
-    rt: &P,
-    what: u8,
-    table: &[u8],
-    start: [u8; PAIRS],
-    pairs: &[u8],
-) -> [u8; PAIRS] {
-    match what {
-        b'r' => show_run(rt, table, start, pairs),
-        b'e' => {
-            let heard = show_run(rt, table, start, pairs);
-            show_rest(rt, table, heard);
-            heard
+// The state that a line starts from.
+#[derive(Clone, Copy, Debug, PartialEq, Eq)]
+enum Start {
+    Nothing,
+    RowThree,
+    Before,
+    Left,
+}
+
+impl From<u8> for Start {
+    fn from(letter: u8) -> Start {
+        match letter {
+            b'0' => Start::Nothing,
+            b'3' => Start::RowThree,
+            b'<' => Start::Before,
+            _ => Start::Left,
         }
-        b'c' => {
-            show_check(rt, table);
-            start
-        }
-        _ => start,
     }
 }
 
-fn show_line<P: Print>(
-    rt: &P,
-    line: &[u8],
-    table: &[u8],
-    rows: &[u8],
-    start: [u8; PAIRS],
-) -> [u8; PAIRS] {
-    let pairs = part(rows, byte_at(line, 2) as usize, byte_at(line, 3) as usize);
-    show_title(rt, part(line, 4, line.len()), pairs);
-    show_below(rt, byte_at(line, 1), table, start, pairs)
+// What a line shows below its title.
+#[derive(Clone, Copy, Debug, PartialEq, Eq)]
+enum Shows {
+    Check,
+    Run,
+    RunAndRest,
+    Nothing,
 }
 
-fn nothing_heard() -> [u8; PAIRS] {
-    [0; PAIRS]
+impl From<u8> for Shows {
+    fn from(letter: u8) -> Shows {
+        match letter {
+            b'c' => Shows::Check,
+            b'r' => Shows::Run,
+            b'e' => Shows::RunAndRest,
+            _ => Shows::Nothing,
+        }
+    }
 }
 
-// The state that a line starts from, where the line before started from one and left another.
-fn start_of(which: u8, before: [u8; PAIRS], left: [u8; PAIRS]) -> [u8; PAIRS] {
-    match which {
-        b'0' => nothing_heard(),
-        b'3' => row_three(),
-        b'<' => before,
-        _ => left,
+// The state that the line before started from, and the one that it left.
+#[derive(Clone, Copy)]
+struct States {
+    before: [u8; PAIRS],
+    left: [u8; PAIRS],
+}
+
+impl States {
+    fn at(&self, start: Start) -> [u8; PAIRS] {
+        match start {
+            Start::Nothing => [0; PAIRS],
+            Start::RowThree => row_three(),
+            Start::Before => self.before,
+            Start::Left => self.left,
+        }
+    }
+}
+
+// A line of a plan.
+#[derive(Clone, Copy)]
+struct Line<'a> {
+    start: Start,
+    shows: Shows,
+    pairs: &'a [u8],
+    title: &'a [u8],
+}
+
+impl<'a> Line<'a> {
+    // A byte that a line lacks is 0.
+    fn read(bytes: &'a [u8], rows: &'a [u8]) -> Line<'a> {
+        let from = value_or(bytes, 2, 0);
+        let count = value_or(bytes, 3, 0);
+        Line {
+            start: Start::from(value_or(bytes, 0, 0)),
+            shows: Shows::from(value_or(bytes, 1, 0)),
+            pairs: part(rows, usize::from(from), usize::from(count)),
+            title: part(bytes, 4, bytes.len()),
+        }
+    }
+
+    // Answers the state that the line leaves.
+    fn show_below<P: Print>(&self, rt: &P, table: &[u8], start: [u8; PAIRS]) -> [u8; PAIRS] {
+        match self.shows {
+            Shows::Check => {
+                show_check(rt, table);
+                start
+            }
+            Shows::Run => show_run(rt, table, start, self.pairs),
+            Shows::RunAndRest => {
+                let left = show_run(rt, table, start, self.pairs);
+                show_rest(rt, table, left);
+                left
+            }
+            Shows::Nothing => start,
+        }
+    }
+
+    fn show<P: Print>(&self, rt: &P, table: &[u8], states: States) -> States {
+        let start = states.at(self.start);
+        show_title(rt, self.title, self.pairs);
+        States {
+            before: start,
+            left: self.show_below(rt, table, start),
+        }
     }
 }
 
@@ -70,22 +128,19 @@ fn start_of(which: u8, before: [u8; PAIRS], left: [u8; PAIRS]) -> [u8; PAIRS] {
 pub fn show_example<P: Print>(rt: &P, plan: &[u8], table: &[u8], rows: &[u8]) -> usize
     ensures { result ≡ lines_in plan.now }
 {
-    let mut before = nothing_heard();
-    let mut left = before;
+    let mut states = States {
+        before: [0; PAIRS],
+        left: [0; PAIRS],
+    };
     let mut first = 0;
     let mut lines = 0;
-    let mut k = 0;
-    while k < plan.len() {
-        if plan[k] == b'\n' {
-            let line = part(plan, first, k - first);
-            let start = start_of(byte_at(line, 0), before, left);
-            let after = show_line(rt, line, table, rows, start);
-            before = start;
-            left = after;
+    for (k, b) in plan.iter().enumerate() {
+        if *b == b'\n' {
+            let line = Line::read(part(plan, first, k - first), rows);
+            states = line.show(rt, table, states);
             first = k + 1;
             lines += 1;
         }
-        k += 1;
     }
     lines
 }

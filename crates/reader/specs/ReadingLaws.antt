@@ -1,10 +1,11 @@
 -- What the reader's answer tells: the refusal; and the refusal tells the answer.
-use Rattle.std.specs.Prelude.{◌≡◌, refl, Result, Ok, Err}
+use Rattle.std.specs.Prelude.{◌≡◌, refl, List, ℕ, Result, Ok, Err, IfOk}
 use Rattle.std.proofs.Common.{sym, ◌∙◌, ap}
 use Rattle.std.proofs.Math.Option.{Option, none, some}
 use Rattle.lists.specs.Tests.{impossible}
 use Rattle.rules.specs.Refusals as rules
 use Rattle.answer.specs.declared.Refusal.{Refusal}
+use Rattle.reader.specs.declared.Table.{Table}
 use Rattle.answer.specs.Refused.{told, refused_in}
 use Rattle.answer.specs.RefusedLaws.{told_tells}
 
@@ -35,3 +36,20 @@ accepted_told (Err r) e = impossible cc
 pub refused_told : {A : Type 0} (a : Result A Refusal) (r : Refusal) → refused_in a ≡ some (told r) → a ≡ Err r
 refused_told (Ok table) r e = impossible cc
 refused_told {A} (Err s) r e = λ i. Err (told_tells s r e i)
+
+-- what a reading shows: the accepted table's bytes, or the refusal
+abbrev pub shown : Result Table Refusal → Result (List ℕ) Refusal
+shown (Ok table) = Ok table.bytes.now
+shown (Err r) = Err r
+
+-- any two readings that the contract of the reader allows for one table show the same
+pub one_reading : (t : List ℕ) (a b : Result Table Refusal)
+    → refused_in a ≡ rules.refusal t
+    → IfOk a (λ x. x.bytes.now ≡ t)
+    → refused_in b ≡ rules.refusal t
+    → IfOk b (λ x. x.bytes.now ≡ t)
+    → shown a ≡ shown b
+one_reading t (Ok x) (Ok y) e p f q = λ i. Ok ((p ∙ sym q) i)
+one_reading t (Ok x) (Err s) e p f q = impossible cc
+one_reading t (Err r) (Ok y) e p f q = impossible cc
+one_reading t (Err r) (Err s) e p f q = λ i. Err (told_tells r s (e ∙ sym f) i)

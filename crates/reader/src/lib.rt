@@ -8,7 +8,7 @@ ghost use Rattle.std.proofs.Math.Option.{none};
 ghost use Rattle.rules.specs.Refusals.{refusal};
 ghost use Rattle.answer.specs.Refused.{refused_in};
 
-use crate::faults::fault_of;
+use crate::faults::Entry;
 use answer::{Refusal, Rule};
 use record_fields::RECORD_BYTES;
 
@@ -36,7 +36,8 @@ pub fn read(table: &[u8]) -> Result<Table<'_>, Refusal>
     }
     let count = length / RECORD_BYTES;
     for i in 0..count {
-        if let Err(rule) = fault_of(table, i) {
+        let entry = Entry { table, i };
+        if let Err(rule) = entry.fault() {
             return Err(rule.at(i));
         }
     }

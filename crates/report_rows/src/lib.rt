@@ -35,7 +35,8 @@ fn write_row(part: &mut [u8], mark: u8, rank: u8, path: &[u8])
     fill_padded(&mut part[3..], path);
 }
 
-// Writes all rows: that of vertex 0, whose path is no record, then those that show their records.
+// Writes all rows: that of vertex 0, whose path is no record, then those that show their records. The part of a vertex is
+// lent on from 16 times its number, a named form of 01-scope.md.
 fn fill_rows(table: &[u8], marks: &[u8; VERTICES], shown: &[u16; VERTICES], rows: &mut [u8])
     requires { length rows.old ≡ 1024 }
     ensures { rows.new ≡ blocks (shown_row table.now marks.now shown.now) 64 }

@@ -76,21 +76,35 @@ own_byte f g u p h =
     (λ z. rw (z, speaks_destination f, speaks_destination g))
     (λ z. rw (speaks_other f u z, speaks_other g u z, h z))
 
-module _ (t : List ℕ) (slots : List (List ℕ)) (p : Path) (u : ℕ) (next : u ≡ next_hop p) where
+module _ (t : List ℕ) (slots : List (List ℕ)) (p : Path) (u : ℕ) (next : u ≡ get_or p 1 0) where
   -- the byte of a row of slots is that of all slots
   pub asked_told : u < 64 → (b : ℕ) → b ≡ byte_for (λ w. slot_paths t (get_or slots u [])) u (rest p) → b ≡ asked_for (held_in t slots) p
-  unfolding asked_for
+  unfolding asked_for next_hop
   asked_told h b e =
       e ∙ own_byte (λ w. slot_paths t (get_or slots u [])) (held_in t slots) u (rest p) (λ z. held_vertex t slots u h)
       ∙ ap (λ w. byte_for (held_in t slots) w (rest p)) next
 
   -- nothing is heard from what is no vertex
   pub asked_past : 64 ≤ u → 0 ≡ asked_for (held_in t slots) p
-  unfolding asked_for
+  unfolding asked_for next_hop
   asked_past h =
       asked_other (held_in t slots) u (rest p) (rest p) refl (λ z. omega arith) 0
       (sym (ap (place_in (rest p)) (held_other t slots u h) ∙ place_nil (rest p)))
       ∙ ap (λ w. byte_for (held_in t slots) w (rest p)) next
+
+  module _ {r : Path} (rested : r ≡ rest p) where
+    -- from the destination
+    pub asked_zero : u ≡ 0 → {b : Bool} → b ≡ same r (0 ∷ []) → {n : ℕ} → n ≡ bool_byte b → n ≡ asked_for (held_in t slots) p
+    unfolding asked_for next_hop
+    asked_zero z {b} e q =
+        q ∙ asked_destination (held_in t slots) u (rest p) r rested z b e ∙ ap (λ w. byte_for (held_in t slots) w (rest p)) next
+
+    -- from another vertex, with the paths of its row of slots
+    pub asked_slots : u ≢ 0 → u < 64 → {row : List ℕ} → row ≡ get_or slots u [] → {b : ℕ} → b ≡ place_in r (slot_paths t row)
+        → b ≡ asked_for (held_in t slots) p
+    asked_slots f h held {b} e =
+        asked_told h b (asked_other (λ w. slot_paths t (get_or slots u [])) u (rest p) r rested f b
+        (e ∙ ap (λ (row : List ℕ). place_in r (slot_paths t row)) held))
 
 -- a vertex's row is that of its slots
 pub asked_slotted : (t : List ℕ) (slots : List (List ℕ)) (v : ℕ) (asked : List ℕ)

@@ -5,31 +5,25 @@ ghost use Rattle.std.specs.Prelude.{◌≡◌};
 ghost use Rattle.lists.specs.Fill.{tabulate};
 ghost use Rattle.rules.specs.Table.{rest};
 ghost use Rattle.rules.specs.Report.{place_in};
-ghost use Rattle.rules.specs.Machine.{byte_for};
 ghost use Rattle.pairs.specs.SlotPaths.{slot_paths, held_in, slotted};
-ghost use Rattle.rests.specs.Rests.{asked_row};
+ghost use Rattle.rests.specs.Rests.{asked_for, asked_row};
 
-use record_fields::{next_at, path_at};
-use slices::{same_parts, wide};
-use table_facts::{NO_RECORD, SLOTS, slots_of};
+use record_fields::path_at;
+use slices::{same_parts, value_or};
+use table_facts::{NO_RECORD, slots_of};
 
-// The number of vertices.
-const VERTICES: u8 = 64;
-
-// The place of a path among those of a row of slots, from 1; 0 where it is not there.
-fn place_of(table: &[u8], path: &[u8], row: [u16; 16]) -> u8
-    ensures { result ≡ place_in path.now (slot_paths table.now row) }
+// The place of a path among those of a row of slots, from 1; 0 where it is not there, as `place_in` of the rules has it and
+// a heard state holds it.
+fn place_of(table: &[u8], path: &[u8], row: &[u16; 16]) -> u8
+    ensures { result ≡ place_in path.now (slot_paths table.now row.now) }
 {
-    let mut k = 0;
-    while k < SLOTS {
-        let i = row[k];
-        if i == NO_RECORD {
-            return 0;
+    for (k, i) in row.iter().enumerate() {
+        if *i == NO_RECORD {
+            break;
         }
-        if same_parts(path, path_at(table, wide(i))) {
+        if same_parts(path, path_at(table, usize::from(*i))) {
             return k as u8 + 1;
         }
-        k += 1;
     }
     0
 }
@@ -38,20 +32,25 @@ fn place_of(table: &[u8], path: &[u8], row: [u16; 16]) -> u8
 fn rest_of(path: &[u8]) -> &[u8]
     ensures { result.now ≡ rest path.now }
 {
-    if path.len() == 0 {
-        return &path[..0];
+    match path {
+        [_, rest @ ..] => rest,
+        [] => &[],
     }
-    &path[1..]
 }
 
-// The byte for the rest of a path whose next hop u holds that row of slots: the destination speaks of (0) alone.
-fn asked_byte(table: &[u8], path: &[u8], u: u8, row: [u16; 16]) -> u8
-    ensures { result ≡ byte_for (λ w. slot_paths table.now row) u (rest path.now) }
+// The byte that has to be heard from the next hop of a path, that of the path's rest: the destination speaks of (0) alone.
+fn asked_byte(table: &[u8], slots: &[[u16; 16]; 64], path: &[u8]) -> u8
+    ensures { result ≡ asked_for (held_in table.now slots.now) path.now }
 {
+    let rest = rest_of(path);
+    let u = usize::from(value_or(path, 1, 0));
     if u == 0 {
-        return same_parts(rest_of(path), b"\0") as u8;
+        return u8::from(same_parts(rest, b"\0"));
     }
-    place_of(table, rest_of(path), row)
+    let Some(row) = slots.get(u) else {
+        return 0;
+    };
+    place_of(table, rest, row)
 }
 
 // What has to be heard for the path of each slot of a row; 0 where the rest is no path of the next hop, and in empty slots.
@@ -59,33 +58,11 @@ pub fn asked_row(table: &[u8], slots: &[[u16; 16]; 64], row: [u16; 16]) -> [u8; 
     ensures { result ≡ asked_row (held_in table.now slots.now) (slot_paths table.now row) }
 {
     let mut asked = [0; 16];
-    let mut k = 0;
-    while k < SLOTS {
-        let here = k;
-        let i = row[here];
-        if i == NO_RECORD {
-            return asked;
+    for (k, i) in row.iter().enumerate() {
+        if *i == NO_RECORD {
+            break;
         }
-        k += 1;
-        let u = next_at(table, wide(i));
-        if VERTICES <= u {
-            continue;
-        }
-        asked[here] = asked_byte(table, path_at(table, wide(i)), u, slots[u as usize]);
-    }
-    asked
-}
-
-// The same for all vertices' slots.
-fn asked_rows(table: &[u8], slots: [[u16; 16]; 64]) -> [[u8; 16]; 64]
-    ensures { result ≡ tabulate (λ v. asked_row (held_in table.now slots) (held_in table.now slots v)) 64 }
-{
-    let mut asked = [[0; 16]; 64];
-    let mut v = 0;
-    while v < 64 {
-        let row = slots[v];
-        asked[v] = asked_row(table, &slots, row);
-        v += 1;
+        asked[k] = asked_byte(table, slots, path_at(table, usize::from(*i)));
     }
     asked
 }
@@ -94,5 +71,10 @@ fn asked_rows(table: &[u8], slots: [[u16; 16]; 64]) -> [[u8; 16]; 64]
 pub fn asked_bytes(table: &[u8]) -> [[u8; 16]; 64]
     ensures { result ≡ tabulate (λ v. asked_row (slotted table.now) (slotted table.now v)) 64 }
 {
-    asked_rows(table, slots_of(table))
+    let slots = slots_of(table);
+    let mut asked = [[0; 16]; 64];
+    for (v, row) in slots.iter().enumerate() {
+        asked[v] = asked_row(table, &slots, *row);
+    }
+    asked
 }

@@ -3,13 +3,12 @@
 
 ghost use Rattle.std.specs.Prelude.{◌≡◌};
 ghost use Rattle.rules.specs.Text.{stage_words, row_path, row_line, row_lines};
-ghost use Rattle.text_writing.specs.Lay.{Laid};
+ghost use Rattle.text_writing.specs.Writes.{Writes};
 
 use record_fields::record_at;
-use slices::{at_most, byte_at};
-use text_writing::{put, put_labelled, put_number, put_route};
-
-const LAST_VERTEX: usize = 63;
+use slices::value_or;
+use table_facts::VERTICES;
+use text_writing::Writer;
 
 // The first byte of a row that waits, and of one whose vertex is absent; otherwise it is the stage.
 const STUCK: u8 = 255;
@@ -26,50 +25,45 @@ const HOPS: usize = 2;
 const PATH: usize = 3;
 
 // `stage 1`, or `stuck`.
-fn put_stage(text: &mut [u8], at: usize, row: &[u8]) -> usize
-    ensures { Laid at (stage_words row.now) text.old text.new result }
+fn put_stage(writer: &mut Writer<'_>, row: &[u8])
+    ensures { Writes (stage_words row.now) writer.old writer.new }
 {
-    let stage = byte_at(row, STAGE);
+    let stage = value_or(row, STAGE, 0);
     if stage == STUCK {
-        return put(text, at, b" stuck");
+        writer.put(b" stuck");
+    } else {
+        writer.labelled(b" stage ", stage as usize);
     }
-    put_labelled(text, at, b" stage ", stage as usize)
 }
 
 // The vertices of a row's path, whatever its hops say: they end with the row at the latest.
+#[tactic(auto, unfolding(rules::specs::Text::row_path))]
 fn path_in(row: &[u8]) -> &[u8]
     ensures { result.now ≡ row_path row.now }
 {
-    let length = row.len();
-    if length < PATH {
-        return &row[..0];
-    }
-    let end = at_most(byte_at(row, HOPS) as usize + 4, length);
-    &row[PATH..end]
+    let path = row.get(PATH..).unwrap_or(&[]);
+    let size = value_or(row, HOPS, 0) as usize + 1;
+    path.get(..size).unwrap_or(path)
 }
 
 // The line of vertex v, where it is present.
-fn put_row(text: &mut [u8], at: usize, v: usize, row: &[u8]) -> usize
-    ensures { Laid at (row_line v row.now) text.old text.new result }
+fn put_row(writer: &mut Writer<'_>, v: usize, row: &[u8])
+    ensures { Writes (row_line v row.now) writer.old writer.new }
 {
-    if byte_at(row, STAGE) == ABSENT {
-        return at;
+    if value_or(row, STAGE, 0) == ABSENT {
+        return;
     }
-    let named = put_number(text, at, v);
-    let staged = put_stage(text, named, row);
-    let routed = put_route(text, staged, byte_at(row, RANK), path_in(row));
-    put(text, routed, b"\n")
+    writer.number(v);
+    put_stage(writer, row);
+    writer.route(value_or(row, RANK, 0), path_in(row));
+    writer.put(b"\n");
 }
 
 // The lines of the vertices 1 to 63. A row, as a record, is the 16 bytes at 16 times its number.
-pub fn put_rows(text: &mut [u8], at: usize, rows: &[u8]) -> usize
-    ensures { Laid at (row_lines rows.now 63) text.old text.new result }
+pub fn put_rows(writer: &mut Writer<'_>, rows: &[u8])
+    ensures { Writes (row_lines rows.now 63) writer.old writer.new }
 {
-    let mut next = at;
-    let mut v = 0;
-    while v < LAST_VERTEX {
-        v += 1;
-        next = put_row(text, next, v, record_at(rows, v));
+    for v in 1..VERTICES {
+        put_row(writer, v, record_at(rows, v));
     }
-    next
 }

@@ -1,19 +1,19 @@
 // The run's entry for C: the library's run, and its numbers and sums as words.
 #![tactic(auto)]
 
-ghost use Rattle.std.specs.Prelude.{◌≡◌};
+ghost use Rattle.std.specs.Prelude.{◌≡◌, Ok};
 ghost use Rattle.rules.specs.Entries.{number_bytes};
 ghost use Rattle.answer.specs.Moves.{run_numbers_in};
 ghost use Rattle.words.specs.Words.{overwritten};
 ghost use Rattle.run_entry.specs.RunCalled.{RunCalled};
 
-use answer::{RunAnswer, RunVerdict};
+use answer::RunAnswer;
 use machine::run;
 use words::{NUMBERS_LENGTH, SUMS, SUMS_LENGTH, WRONG_LENGTH, code_of, write_numbers, write_sums};
 
 // Writes a run's numbers in the order of the rules.
 fn write_run(bytes: &mut [u8], answer: RunAnswer)
-    ensures { bytes.new ≡ overwritten (number_bytes (run_numbers_in answer)) bytes.old }
+    ensures { bytes.new ≡ overwritten (number_bytes (run_numbers_in (Ok answer))) bytes.old }
 {
     let told = [
         answer.steps,
@@ -40,23 +40,16 @@ pub fn run_for_c(
         sums.old numbers.old
         result heard.new sums.new numbers.new }
 {
-    if sums.len() != SUMS_LENGTH {
-        return WRONG_LENGTH;
-    }
-    if numbers.len() != NUMBERS_LENGTH {
+    if sums.len() != SUMS_LENGTH || numbers.len() != NUMBERS_LENGTH {
         return WRONG_LENGTH;
     }
     let mut moved = [0; SUMS];
-    let answer = run(table, heard, schedule, &mut moved);
-    let verdict = answer.verdict;
-    match verdict {
-        RunVerdict::Accepted => {
+    match run(table, heard, schedule, &mut moved) {
+        Ok(answer) => {
             write_sums(sums, &moved);
             write_run(numbers, answer);
-            return 0;
+            0
         }
-        RunVerdict::Refused(number, place) => {
-            return code_of(number, place as u32);
-        }
+        Err(refusal) => code_of(refusal.number, refusal.place as u32),
     }
 }

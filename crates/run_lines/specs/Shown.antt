@@ -1,7 +1,8 @@
 -- What the run's lines show of a vertex, from the bytes of the choices, and the text of its answer, for any bytes.
-use Rattle.std.specs.Prelude.{ℕ, min, List, [], ◌∷◌, get_or, ℤ, pos}
+use Rattle.std.specs.Prelude.{ℕ, min, List, [], ◌∷◌, get_or, ℤ, pos, Result}
 use Rattle.rules.specs.Table.{path_at, records, slots_of, present}
 use Rattle.rules.specs.RunText.{vertex_line, vertex_lines, run_text_of}
+use Rattle.answer.specs.declared.Refusal.{Refusal}
 use Rattle.answer.specs.declared.RunAnswer.{RunAnswer}
 use Rattle.answer.specs.Moves.{run_refusal_in, run_numbers_in}
 
@@ -21,5 +22,5 @@ abbrev pub shown_lines : List ℕ → List ℕ → List ℤ → ℕ → List ℕ
 shown_lines t choices sums n = vertex_lines (present t) (shown_line t choices sums) n
 
 -- the text of a run's answer, with these lines
-abbrev pub run_answer_text : RunAnswer → List ℕ → List ℕ → List ℤ → List ℕ
-run_answer_text a t choices sums = run_text_of (run_refusal_in a.verdict) (run_numbers_in a) (shown_lines t choices sums 63)
+abbrev pub run_answer_text : Result RunAnswer Refusal → List ℕ → List ℕ → List ℤ → List ℕ
+run_answer_text a t choices sums = run_text_of (run_refusal_in a) (run_numbers_in a) (shown_lines t choices sums 63)

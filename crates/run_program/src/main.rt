@@ -4,7 +4,7 @@
 use run_text::run_text;
 use std::env::{Env, FillError};
 use std::fs::File;
-use std::{io, str};
+use std::{fmt, io, str};
 use whole_input::read_full;
 
 // One byte more than the longest table.
@@ -19,34 +19,73 @@ const TEXT_BYTES: usize = 8192;
 // So many bytes hold every file name.
 const NAME_BYTES: usize = 4096;
 
-// Whether there is an argument of that number.
-fn is_given(rt: &HostRuntime, argument: usize) -> bool {
-    let mut name = [0; NAME_BYTES];
-    match rt.arg(argument, &mut name) {
-        Ok(_) => true,
-        Err(FillError::TooLong) => true,
-        Err(FillError::NotPresent) => false,
+// Why there is no run to print; a file that fails is told by its name or by what it holds.
+#[derive(Debug, Drop)]
+enum Trouble<'a> {
+    Usage,
+    LongName,
+    OtherName,
+    Failed(&'a str, io::Error),
+}
+
+impl fmt::Display for Trouble<'_> {
+    fn fmt<W: fmt::Write>(&self, f: &mut fmt::Formatter<W>) -> fmt::Result {
+        match self {
+            Trouble::Usage => write!(f, "usage: run_program TABLE SCHEDULE"),
+            Trouble::LongName => write!(f, "file name: it is too long"),
+            Trouble::OtherName => write!(f, "file name: it is not UTF-8"),
+            Trouble::Failed(what, error) => write!(f, "{what}: {error}"),
+        }
     }
 }
 
-// Opens the file that an argument names, or tells why it cannot and answers none.
-fn open_named(rt: &HostRuntime, argument: usize) -> io::Result<Option<File>> {
-    let mut buffer = [0; NAME_BYTES];
-    let Ok(length) = rt.arg(argument, &mut buffer) else {
-        eprintln!(rt; "file name: it is too long")?;
-        return Ok(None);
+// Whether there is an argument of that number.
+fn is_given(rt: &HostRuntime, argument: usize) -> bool {
+    let mut name = [0; NAME_BYTES];
+    !matches!(rt.arg(argument, &mut name), Err(FillError::NotPresent))
+}
+
+fn open_named<'a>(
+    rt: &HostRuntime,
+    argument: usize,
+    buffer: &'a mut [u8],
+) -> Result<File, Trouble<'a>> {
+    let Ok(length) = rt.arg(argument, buffer) else {
+        return Err(Trouble::LongName);
     };
     let Ok(name) = str::from_utf8(&buffer[..length]) else {
-        eprintln!(rt; "file name: it is not UTF-8")?;
-        return Ok(None);
+        return Err(Trouble::OtherName);
     };
-    match File::open(rt, name) {
-        Ok(file) => Ok(Some(file)),
-        Err(error) => {
-            eprintln!(rt; "{name}: {error}")?;
-            Ok(None)
-        }
+    File::open(rt, name).map_err(|error| Trouble::Failed(name, error))
+}
+
+fn read_whole<'a>(
+    what: &'a str,
+    mut file: File,
+    buffer: &'a mut [u8],
+) -> Result<&'a [u8], Trouble<'a>> {
+    match read_full(&mut file, buffer) {
+        Ok(count) => Ok(&buffer[..count]),
+        Err(error) => Err(Trouble::Failed(what, error)),
     }
+}
+
+// The table and the schedule; both files are open before either is read.
+fn read_both<'a>(
+    rt: &HostRuntime,
+    first: &'a mut [u8],
+    second: &'a mut [u8],
+    table: &'a mut [u8],
+    schedule: &'a mut [u8],
+) -> Result<(&'a [u8], &'a [u8]), Trouble<'a>> {
+    if !is_given(rt, 2) || is_given(rt, 3) {
+        return Err(Trouble::Usage);
+    }
+    let first = open_named(rt, 1, first)?;
+    let second = open_named(rt, 2, second)?;
+    let table = read_whole("table", first, table)?;
+    let schedule = read_whole("schedule", second, schedule)?;
+    Ok((table, schedule))
 }
 
 // The run, printed.
@@ -56,30 +95,14 @@ fn answer(rt: &impl Print, table: &[u8], schedule: &[u8]) -> io::Result<()> {
     rt.write_all(&text[..length])
 }
 
-// Each buffer has room for one byte more than the longest input, so that a longer one is seen.
-fn read_and_answer(rt: &HostRuntime, mut first: File, mut second: File) -> io::Result<()> {
+// The table and the schedule have room for one byte more than the longest input, so that a longer one is seen.
+fn main(rt: HostRuntime) -> io::Result<()> {
+    let mut first = [0; NAME_BYTES];
+    let mut second = [0; NAME_BYTES];
     let mut table = [0; TABLE_BYTES];
     let mut schedule = [0; SCHEDULE_BYTES];
-    let size = match read_full(&mut first, &mut table) {
-        Ok(size) => size,
-        Err(error) => return eprintln!(rt; "table: {error}"),
-    };
-    let length = match read_full(&mut second, &mut schedule) {
-        Ok(length) => length,
-        Err(error) => return eprintln!(rt; "schedule: {error}"),
-    };
-    answer(rt, &table[..size], &schedule[..length])
-}
-
-fn main(rt: HostRuntime) -> io::Result<()> {
-    if !is_given(&rt, 2) || is_given(&rt, 3) {
-        return eprintln!(rt; "usage: run_program TABLE SCHEDULE");
+    match read_both(&rt, &mut first, &mut second, &mut table, &mut schedule) {
+        Ok((table, schedule)) => answer(&rt, table, schedule),
+        Err(trouble) => eprintln!(rt; "{trouble}"),
     }
-    let Some(first) = open_named(&rt, 1)? else {
-        return Ok(());
-    };
-    let Some(second) = open_named(&rt, 2)? else {
-        return Ok(());
-    };
-    read_and_answer(&rt, first, second)
 }

@@ -1,2 +1,3 @@
 -- The run as text.
+pub mod RanFrom
 pub mod PrintedRunLaws

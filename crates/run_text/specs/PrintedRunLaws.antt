@@ -1,5 +1,5 @@
 -- Laws of the run as text: what its answer prints is the text of the run, and 8,192 bytes hold it.
-use Rattle.std.specs.Prelude.{◌≡◌, ◌≢◌, get_or, take, replicate, ℤ, pos}
+use Rattle.std.specs.Prelude.{◌≡◌, ◌≢◌, get_or, take, replicate, ℤ, pos, Result}
 use Rattle.std.proofs.Math.Path.{sym}
 use Rattle.std.proofs.Common.{ap, ◌∙◌, arith}
 use mathlib.Core.List.{List, [], ◌∷◌}
@@ -10,7 +10,8 @@ use Rattle.lists.specs.FillLaws.{tabulate_at}
 use Rattle.lists.specs.RangeLaws.{map_at}
 use Rattle.lists.specs.Tests.{by_option}
 use Rattle.rules.specs.Table.{records, path_at, owned, paths_below, paths_of, slots_of, present}
-use Rattle.rules.specs.Refusals.{Refusal, refusal}
+use Rattle.rules.specs.Refusals as rules
+use Rattle.rules.specs.Refusals.{refusal}
 use Rattle.rules.specs.Report.{rank_in}
 use Rattle.rules.specs.Machine.{byte_for, choice, choice_bytes}
 use Rattle.rules.specs.Run.{Tally, pairs_in, run}
@@ -23,6 +24,7 @@ use Rattle.laws.specs.ShapeLaws.{shaped}
 use Rattle.laws.specs.MachineLaws.{speaks_other, rank_tells}
 use Rattle.laws.specs.RunTextLaws.{vertices_ext, ran_text_fits}
 use Rattle.laws.specs.AnswerLaws.{run_admitted}
+use Rattle.answer.specs.declared.Refusal.{Refusal}
 use Rattle.answer.specs.declared.RunAnswer.{RunAnswer}
 use Rattle.text_writing.specs.Lay.{Laid}
 use Rattle.text_writing.specs.LayLaws.{laid_fits}
@@ -70,19 +72,19 @@ lines_ran : (t : List ℕ)
 lines_ran t e y = vertices_ext (present t) _ _ 63 (λ k h. shown_ran t e (k + 1) (omega arith) y (λ z. omega arith))
 
 -- a refused run prints neither numbers nor lines
-refused_alone : (o : Option Refusal) (r : Refusal) (ns ns' lines lines' : List ℕ)
+refused_alone : (o : Option rules.Refusal) (r : rules.Refusal) (ns ns' lines lines' : List ℕ)
     → o ≡ some r
     → run_text_of o ns lines ≡ run_text_of o ns' lines'
 unfolding run_text_of
 refused_alone o r ns ns' lines lines' e = rw e
 
 -- an accepted run leaves what it has come to
-accepted_new : {A : Type 0} (o : Option Refusal) (new old : A) → o ≡ none → unless o new old ≡ new
+accepted_new : {A : Type 0} (o : Option rules.Refusal) (new old : A) → o ≡ none → unless o new old ≡ new
 unfolding unless
 accepted_new o new old e = rw e
 
 -- what the answer prints is the text of the run, where the choices are those of the state that it leaves
-pub printed_run : {t heard s heard_after chosen : List ℕ} {sums sums_after : List ℤ} {a : RunAnswer}
+pub printed_run : {t heard s heard_after chosen : List ℕ} {sums sums_after : List ℤ} {a : Result RunAnswer Refusal}
     → Ran t heard s sums a heard_after sums_after
     → chosen ≡ choices_in t heard_after
     → run_answer_text a t chosen sums_after ≡ run_text t heard s sums
@@ -96,7 +98,7 @@ printed_run {t} {heard} {s} {heard_after} {chosen} {sums} {sums_after} {a} ran c
     (λ r e. rw ran.refusal (refused_alone _ r _ _ _ _ e))
 
 -- so what it prints from zeros is the text of the two inputs
-pub printed_from_zeros : {t s heard_after chosen : List ℕ} {sums_after : List ℤ} {a : RunAnswer}
+pub printed_from_zeros : {t s heard_after chosen : List ℕ} {sums_after : List ℤ} {a : Result RunAnswer Refusal}
     → Ran t (replicate 4096 0) s (replicate 64 (pos 0)) a heard_after sums_after
     → chosen ≡ choices_in t heard_after
     → run_answer_text a t chosen sums_after ≡ ran_text t s

@@ -1,16 +1,15 @@
 -- Laws of a run on its way: the start, what each pair may rely on, one pair more, and the end.
-use Rattle.std.specs.Prelude.{◌≡◌, refl, Bool, true, false, ℤ, nat_abs, ◌+ℤ◌, ◌-ℤ◌}
+use Rattle.std.specs.Prelude.{◌≡◌, refl, Bool, true, false, replicate, ℤ, nat_abs, ◌+ℤ◌, ◌-ℤ◌}
 use Rattle.std.proofs.Math.Path.{sym, ap}
 use Rattle.std.proofs.Common.{◌∙◌, arith, eq-eqb, ne_eqb}
 use mathlib.Core.List.{List, []}
-use Prim.Native.Nat.{ℕ, suc, ◌+◌, ◌/◌, ◌<◌, ◌≤◌}
+use Prim.Native.Nat.{ℕ, suc, ◌+◌, ◌*◌, ◌/◌, ◌<◌, ◌≤◌}
 use Rattle.std.proofs.Math.ListN.{length, get_or, set, length-set, length-replicate}
 use Rattle.std.proofs.Math.Seq.{set-get_or}
 use Rattle.std.proofs.Math.IntN.{pos, +ℤ_idl}
 use Rattle.std.proofs.Math.Dec.{eqb}
 use Rattle.lists.specs.Search.{same}
-use Rattle.lists.specs.Fill.{tabulate}
-use Rattle.lists.specs.FillLaws.{tabulate_at, tabulate_length, tabulate_set, tabulate_alike, alike_at}
+use Rattle.lists.specs.FillLaws.{tabulate_at, tabulate_length, tabulate_set, alike_at}
 use Rattle.lists.specs.Tests.{by_equal}
 use Rattle.lists.specs.ListLaws.{same_refl, differ}
 use Rattle.lists.specs.NumberLaws.{difference_most}
@@ -21,8 +20,6 @@ use Rattle.laws.specs.MachineLaws.{byte_tells, choice_spoken, choice_kept, step_
 use Rattle.laws.specs.ShapeLaws.{shaped}
 use Rattle.laws.specs.RunLaws.{Telescoped, telescoped_none, telescoped_on, all_listen, run_steps, more_both}
 use Rattle.laws.specs.ScheduleLaws.{pairs_length, pairs_at}
-use Rattle.answer.specs.declared.RunAnswer.{RunAnswer}
-use Rattle.answer.specs.declared.RunVerdict.TheVariants.{Accepted}
 use Rattle.rests.specs.Rests.{asked_row}
 use Rattle.choice.specs.Choosing.{choice_byte, choices_by}
 use Rattle.choice.specs.ChoosingLaws.{choices_told}
@@ -34,7 +31,7 @@ use Rattle.run_admission.specs.RunAdmitted.{Ready}
 use Rattle.stepper.specs.Working.{Asks, Workable}
 use Rattle.stepper.specs.StepLaws.{byte_told, listening_worked, says_step, worked_moved}
 use Rattle.runner.specs.Going.{Going}
-use Rattle.runner.specs.Taking.{listener_at, speaker_at, offset_at, chosen_then, Takes, TakenIn}
+use Rattle.runner.specs.Taking.{offset_at, chosen_then, Takes, TakenIn}
 use Rattle.runner.specs.Ran.{accepted, Followed}
 
 -- the choices after a step: the listener's is new
@@ -69,7 +66,7 @@ module _ {t start schedule : List ℕ} {nexts asked : List (List ℕ)} {closed :
   abbrev paths : ℕ → List Path
   paths = paths_of t
 
-  pub going_start : (choices : List ℕ) (sums : List ℤ) → choices ≡ choices_by nexts asked start → sums ≡ tabulate (λ v. pos 0) 64
+  pub going_start : (choices : List ℕ) (sums : List ℤ) → choices ≡ choices_by nexts asked start → sums ≡ replicate 64 (pos 0)
       → Going t start schedule 0 start choices sums 0 0 0
   unfolding begun
   going_start choices sums c z =
@@ -78,14 +75,14 @@ module _ {t start schedule : List ℕ} {nexts asked : List (List ℕ)} {closed :
       record {
         state = sym (ap (λ (y : Tally). y.heard) none_yet);
         chosen = told;
-        summed = z ∙ tabulate_alike (pos 0) 64 ∙ sym (ap (λ (y : Tally). y.sums) none_yet);
+        summed = z ∙ sym (ap (λ (y : Tally). y.sums) none_yet);
         telescoped = rw none_yet (telescoped_none paths (begun start));
         up = sym (ap (λ (y : Tally). y.ups) none_yet);
         down = sym (ap (λ (y : Tally). y.downs) none_yet);
         changed = sym (ap (λ (y : Tally). y.last_change) none_yet);
         long = f.long;
         long_choices = ap length told ∙ choices_length paths start;
-        long_sums = ap length z ∙ tabulate_length (λ v. pos 0) 64;
+        long_sums = ap length z ∙ length-replicate {A = ℤ} 64 (pos 0);
         moves = omega arith;
       }
 
@@ -93,10 +90,10 @@ module _ {t start schedule : List ℕ} {nexts asked : List (List ℕ)} {closed :
   module _ {i : ℕ} {heard choices : List ℕ} {sums : List ℤ} {ups downs last : ℕ}
       (g : Going t start schedule i heard choices sums ups downs last) (h : i < length schedule / 2) where
     abbrev v : ℕ
-    v = listener_at schedule i
+    v = get_or schedule (2 * i) 0
 
     abbrev u : ℕ
-    u = speaker_at schedule i
+    u = get_or schedule (2 * i + 1) 0
 
     abbrev pair : Pair
     pair = pair_at schedule i
@@ -124,11 +121,9 @@ module _ {t start schedule : List ℕ} {nexts asked : List (List ℕ)} {closed :
         ∙ g.telescoped.sum v ∙ ap (λ c. c +ℤ pos a -ℤ pos b) (alike_at 64 v (pos 0)) ∙ ap (λ c. c -ℤ pos b) (+ℤ_idl (pos a)) in
         rw e (difference_most a b 16 (standing_most paths y.heard v) (standing_most paths start v))
 
-    pub going_takes : Takes schedule i heard choices sums
+    pub going_takes : Takes pair heard choices sums
     going_takes =
         record {
-          within = h;
-          short = f.short;
           listener = worked.listener;
           speaker = worked.speaker;
           long = g.long;
@@ -160,7 +155,7 @@ module _ {t start schedule : List ℕ} {nexts asked : List (List ℕ)} {closed :
 
     -- what the listener takes in
     module _ {heard_now choices_now : List ℕ} {sums_now : List ℤ} {ups_now downs_now last_now : ℕ}
-        (w : TakenIn nexts asked schedule i heard choices sums ups downs last heard_now choices_now sums_now ups_now downs_now last_now) where
+        (w : TakenIn nexts asked pair (i + 1) heard choices sums ups downs last heard_now choices_now sums_now ups_now downs_now last_now) where
       abbrev old : ℕ
       old = get_or choices v 0
 
@@ -179,7 +174,7 @@ module _ {t start schedule : List ℕ} {nexts asked : List (List ℕ)} {closed :
       is : new ≡ byte_for paths v (choice paths heard_now v)
       unfolding chosen_then
       is =
-          let at = offset_at schedule i in
+          let at = offset_at pair in
           let there = get_or heard at 0 in
           let said = get_or choices u 0 in
           by_equal there said
@@ -244,21 +239,20 @@ module _ {t start schedule : List ℕ} {nexts asked : List (List ℕ)} {closed :
   -- after the last pair the run has ended
   module _ {i : ℕ} {heard choices : List ℕ} {sums : List ℤ} {ups downs last : ℕ}
       (g : Going t start schedule i heard choices sums ups downs last)
-      (h : length schedule / 2 ≤ i) (l : i ≤ length schedule / 2) where
-    pub going_end : (a : RunAnswer)
-        → a ≡ record { verdict = Accepted; steps = i; ups = ups; downs = downs; last = last; rounds = closed }
-        → Followed (run paths start (pairs_in schedule)) a heard sums
+      (h : length schedule / 2 ≤ i) where
+    pub going_end : Followed (run paths start (pairs_in schedule))
+        (record { steps = length schedule / 2; ups = ups; downs = downs; last = last; rounds = closed }) heard sums
     unfolding accepted
-    going_end a e =
+    going_end =
         let y = run paths start (pairs_in schedule) in
         let ended = tally_end t start schedule i h in
-        let n : i ≡ y.steps = omega (arith, run_steps paths start (pairs_in schedule), pairs_length schedule) in
+        let n : length schedule / 2 ≡ y.steps = omega (arith, run_steps paths start (pairs_in schedule), pairs_length schedule) in
         let p : ups ≡ y.ups = g.up ∙ ap (λ (z : Tally). z.ups) ended in
         let d : downs ≡ y.downs = g.down ∙ ap (λ (z : Tally). z.downs) ended in
         let c : last ≡ y.last_change = g.changed ∙ ap (λ (z : Tally). z.last_change) ended in
         let o : closed ≡ y.rounds = f.rounds in
         record {
-          answer = e ∙ (λ j. record { verdict = Accepted; steps = n j; ups = p j; downs = d j; last = c j; rounds = o j });
+          answer = λ j. record { steps = n j; ups = p j; downs = d j; last = c j; rounds = o j };
           heard = g.state ∙ ap (λ (z : Tally). z.heard) ended;
           sums = g.summed ∙ ap (λ (z : Tally). z.sums) ended;
         }

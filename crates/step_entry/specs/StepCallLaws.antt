@@ -1,5 +1,5 @@
 -- Each way through the step's entry: a buffer of another length, a refusal of the library, and an accepted call.
-use Rattle.std.specs.Prelude.{◌≡◌, List, [], ◌∷◌, ℕ, ◌<◌, length, ℤ}
+use Rattle.std.specs.Prelude.{◌≡◌, List, [], ◌∷◌, ℕ, ◌<◌, length, ℤ, Result, Ok, Err}
 use Rattle.std.proofs.Math.Path.{sym, ap}
 use Rattle.std.proofs.Common.{◌∙◌}
 use Rattle.std.proofs.Math.Option.{none}
@@ -14,8 +14,7 @@ use Rattle.laws.specs.EntryLaws.{step_other, step_same}
 use Rattle.laws.specs.MachineLaws.{movement_most}
 use Rattle.laws.specs.RefusalLaws.{step_numbered}
 use Rattle.laws.specs.TableLaws.{at}
-use Rattle.answer.specs.declared.StepAnswer.{StepAnswer}
-use Rattle.answer.specs.declared.StepAnswer.TheVariants.{Moved, Refused}
+use Rattle.answer.specs.declared.Refusal as answer
 use Rattle.answer.specs.Moves.{step_refusal_in, movement_in}
 use Rattle.tally.specs.CountingLaws.{small_told}
 use Rattle.stepper.specs.Stepped.{Stepped}
@@ -31,7 +30,7 @@ module _ (t heard : List ℕ) (p : Pair) (lent : List ℕ) where
       let e = step_other t heard p lent f in
       record { code = length_code _ e; heard = kept _ _ heard 1 0 e; numbers = kept _ _ lent 1 0 e }
 
-  module _ (long : length lent ≡ 32) (a : StepAnswer) (after : List ℕ) (stepped : Stepped t heard p a after) where
+  module _ (long : length lent ≡ 32) (a : Result ℤ answer.Refusal) (after : List ℕ) (stepped : Stepped t heard p a after) where
     -- the refusal and the heard state are the library's
 
     abbrev same : step_refusal_for_c t heard p lent ≡ step_refusal t heard p
@@ -41,13 +40,12 @@ module _ (t heard : List ℕ) (p : Pair) (lent : List ℕ) where
     unfolding heard_step_for_c heard_after_step
     heard_is = stepped.heard ∙ as_left _ (rules.step (paths_of t) heard p) heard _ same
 
-    module _ (m : ℤ) (e : a ≡ Moved m) where
+    module _ (m : ℤ) (e : a ≡ Ok m) where
       moves : step_refusal t heard p ≡ none
-      unfolding step_refusal_in
       moves = sym stepped.refusal ∙ ap step_refusal_in e
 
       moved_is : m ≡ movement (paths_of t) heard p
-      unfolding movement_in step_movement unless
+      unfolding step_movement unless
       moved_is = sym (ap movement_in e) ∙ stepped.movement ∙ rw moves
 
       -- the movement's word, and seven times 0
@@ -67,16 +65,15 @@ module _ (t heard : List ℕ) (p : Pair) (lent : List ℕ) where
             numbers = written ∙ sym whole ∙ zeros_behind (n ∷ []) 7 ∙ word ∙ renewed _ _ lent none_left;
           }
 
-    module _ (n k : ℕ) (e : a ≡ Refused n k) where
-      stops : step_refusal t heard p ≡ at n k
-      unfolding step_refusal_in
+    module _ (r : answer.Refusal) (e : a ≡ Err r) where
+      stops : step_refusal t heard p ≡ at r.number r.place
       stops = sym stepped.refusal ∙ ap step_refusal_in e
 
-      pub step_refused : (code : ℕ) → code ≡ code_of (at n k) → StepCalled t heard p lent code after lent
+      pub step_refused : (code : ℕ) → code ≡ code_of (at r.number r.place) → StepCalled t heard p lent code after lent
       unfolding step_numbers_for_c
       step_refused code q =
           let f = same ∙ stops in
-          record { code = q ∙ sym (ap code_of f); heard = heard_is; numbers = kept _ _ lent n k f }
+          record { code = q ∙ sym (ap code_of f); heard = heard_is; numbers = kept _ _ lent r.number r.place f }
 
-      pub step_small : k < 65536
-      step_small = (step_numbered t heard p (record { number = n; place = k }) stops).place
+      pub step_small : r.place < 65536
+      step_small = (step_numbered t heard p (record { number = r.number; place = r.place }) stops).place

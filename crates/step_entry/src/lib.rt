@@ -3,7 +3,6 @@
 
 ghost use Rattle.step_entry.specs.StepCalled.{StepCalled};
 
-use answer::StepAnswer;
 use machine::step;
 use words::{NUMBERS_LENGTH, WRONG_LENGTH, code_of, complement, write_numbers};
 
@@ -22,14 +21,11 @@ pub fn step_for_c(
     if numbers.len() != NUMBERS_LENGTH {
         return WRONG_LENGTH;
     }
-    let answer = step(table, heard, listener, speaker);
-    match answer {
-        StepAnswer::Moved(moved) => {
+    match step(table, heard, listener, speaker) {
+        Ok(moved) => {
             write_numbers(numbers, [complement(moved), 0, 0, 0, 0, 0, 0, 0]);
-            return 0;
+            0
         }
-        StepAnswer::Refused(number, place) => {
-            return code_of(number, place as u32);
-        }
+        Err(refusal) => code_of(refusal.number, refusal.place as u32),
     }
 }

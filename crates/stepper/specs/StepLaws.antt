@@ -1,5 +1,5 @@
 -- Each way through the step.
-use Rattle.std.specs.Prelude.{◌≡◌, ◌≢◌, Bool, true, false, List, [], ℕ, ◌+◌, ◌*◌, ◌<◌, ◌≤◌, min, length, get_or, set, replicate, ℤ}
+use Rattle.std.specs.Prelude.{◌≡◌, ◌≢◌, Option, Some, None, Ok, Err, Bool, true, false, List, [], ℕ, ◌+◌, ◌*◌, ◌<◌, ◌≤◌, min, length, get_or, set, replicate, ℤ}
 use Rattle.std.proofs.Math.Path.{sym, ap}
 use Rattle.std.proofs.Common.{◌∙◌, arith, to_z, of_z}
 use Rattle.std.proofs.Math.Option.{none, some}
@@ -14,8 +14,8 @@ use Rattle.rules.specs.Answers.{unless, choices_in, step_refusal, step_movement,
 use Rattle.laws.specs.AnswerLaws.{step_refused_heard, step_refused_pair, step_accepted}
 use Rattle.laws.specs.Shape.{Shaped}
 use Rattle.laws.specs.ShapeLaws.{shaped}
-use Rattle.answer.specs.declared.StepAnswer.TheVariants.{Moved, Refused}
-use Rattle.answer.specs.Moves.{step_refusal_in, movement_in}
+use Rattle.answer.specs.declared.Refusal as answer
+use Rattle.answer.specs.Refused.{told}
 use Rattle.pairs.specs.SlotPaths.{slot_paths, held_in, slotted}
 use Rattle.pairs.specs.SlotPathLaws.{slotted_paths, rows_told}
 use Rattle.pairs.specs.NextHops.{Rows, hears_from}
@@ -127,40 +127,40 @@ listening_worked t heard v u e n l =
 
 module _ (table heard : List ℕ) (p : Pair) where
   -- refused
-  pub stepped_refused : (n k : ℕ) → step_refusal table heard p ≡ some (record { number = n; place = k }) → Stepped table heard p (Refused n k) heard
-  unfolding step_refusal_in movement_in step_movement heard_after_step unless
-  stepped_refused n k e = record { refusal = sym e; movement = rw e; heard = rw e }
+  pub stepped_refused : (r : answer.Refusal) → step_refusal table heard p ≡ some (told r) → Stepped table heard p (Err r) heard
+  unfolding step_movement heard_after_step unless
+  stepped_refused r e = record { refusal = sym e; movement = rw e; heard = rw e }
 
   -- accepted
   pub stepped_accepted : (m : ℤ) (after : List ℕ)
       → step_refusal table heard p ≡ none
       → m ≡ movement (paths_of table) heard p
       → after ≡ step (paths_of table) heard p
-      → Stepped table heard p (Moved m) after
-  unfolding step_refusal_in movement_in step_movement heard_after_step unless
+      → Stepped table heard p (Ok m) after
+  unfolding step_movement heard_after_step unless
   stepped_accepted m after e q r = record { refusal = sym e; movement = q ∙ rw e; heard = r ∙ rw e }
 
 -- over an accepted table, with where its slots lead
 
-module _ {t heard : List ℕ} {nexts : List (List ℕ)} {at : ℕ} (y : Surveyed t heard nexts at) where
+module _ {t heard : List ℕ} {nexts : List (List ℕ)} {at : Option ℕ} (y : Surveyed t heard nexts at) where
   -- the state is not valid
-  pub way_heard : (p : Pair) → at ≢ 4096 → Stepped t heard p (Refused 12 at) heard
-  way_heard p f = stepped_refused t heard p 12 at (step_refused_heard t heard p y.long y.accepted at (survey_bad y f))
+  pub way_heard : (p : Pair) (k : ℕ) → at ≡ Some k → Stepped t heard p (Err (record { number = 12; place = k })) heard
+  way_heard p k e = stepped_refused t heard p (record { number = 12; place = k }) (step_refused_heard t heard p y.long y.accepted k (survey_bad y k e))
 
-  module _ (valid : at ≡ 4096) (p : Pair) (b : Bool) (told : b ≡ hears_from nexts p.listener p.speaker) where
+  module _ (valid : at ≡ None) (p : Pair) (b : Bool) (told : b ≡ hears_from nexts p.listener p.speaker) where
     listens_told : b ≡ listens (paths_of t) p.listener p.speaker
     listens_told = told ∙ hears_told (paths_of t) (present t) (survey_shape y) nexts (survey_rows y) p.listener p.speaker
 
     -- the pair does not listen
-    pub way_pair : b ≡ false → Stepped t heard p (Refused 14 0) heard
-    way_pair f = stepped_refused t heard p 14 0 (step_refused_pair t heard p y.long y.accepted (survey_valid y valid) (sym listens_told ∙ f))
+    pub way_pair : b ≡ false → Stepped t heard p (Err (record { number = 14; place = 0 })) heard
+    way_pair f = stepped_refused t heard p (record { number = 14; place = 0 }) (step_refused_pair t heard p y.long y.accepted (survey_valid y valid) (sym listens_told ∙ f))
 
     -- it does
     pub way_worked : b ≡ true → Workable t heard p.listener p.speaker
     way_worked f = listening_worked t heard p.listener p.speaker y.accepted y.long (sym listens_told ∙ f)
 
     pub way_moved : b ≡ true → (m : ℤ) (after : List ℕ) → m ≡ movement (paths_of t) heard p → after ≡ step (paths_of t) heard p
-        → Stepped t heard p (Moved (to_z w32 (of_z w32 m))) after
+        → Stepped t heard p (Ok (to_z w32 (of_z w32 m))) after
     way_moved f m after q r =
         stepped_accepted t heard p (to_z w32 (of_z w32 m)) after (step_accepted t heard p y.long y.accepted (survey_valid y valid) (sym listens_told ∙ f))
         (moved_told (paths_of t) heard p m q) r

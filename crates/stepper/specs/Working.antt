@@ -4,8 +4,10 @@ use Rattle.std.proofs.Math.Option.{none}
 use Rattle.lists.specs.Fill.{tabulate}
 use Rattle.rules.specs.Table.{Path, records, slots_of}
 use Rattle.rules.specs.Refusals.{refusal}
+use Rattle.rules.specs.Machine as rules
 use Rattle.rests.specs.Rests.{asked_row}
 use Rattle.choice.specs.Choosing.{choice_byte}
+use Rattle.stepper.specs.declared.Pair.{Pair}
 
 -- the slots of a table
 abbrev pub Held : List ℕ → List (List ℕ) → Type 0
@@ -23,7 +25,11 @@ pub record Workable (t heard : List ℕ) (v u : ℕ) : Type 0 where
   pub other : v ≢ 0
   pub speaker : u < 64
 
--- what u says is stored at 64v+u, and v chooses
-pub record Heard (nexts asked before : List ℕ) (v u said new : ℕ) (after : List ℕ) : Type 0 where
-  pub stored : after ≡ set before (64 * v + u) said
-  pub chosen : new ≡ choice_byte nexts asked after v
+-- what the speaker says is stored at the pair's offset, and the listener chooses
+pub record Heard (nexts asked before : List ℕ) (p : rules.Pair) (said new : ℕ) (after : List ℕ) : Type 0 where
+  pub stored : after ≡ set before (64 * p.listener + p.speaker) said
+  pub chosen : new ≡ choice_byte nexts asked after p.listener
+
+-- a pair as the rules have it
+abbrev pub ruled : Pair → rules.Pair
+ruled p = record { listener = p.listener; speaker = p.speaker }

@@ -1,93 +1,98 @@
 // The single step: what is judged first, then one pair.
 #![tactic(auto)]
 
-ghost use Rattle.std.specs.Prelude.{◌≡◌, length, set};
-ghost use Rattle.std.proofs.Math.Option.{none};
+ghost use Rattle.std.specs.Prelude.{◌≡◌, ◌+◌, ◌*◌, length};
 ghost use Rattle.rules.specs.Table.{paths_of};
-ghost use Rattle.rules.specs.Refusals.{refusal};
 ghost use Rattle.rules.specs.Machine as rules;
 ghost use Rattle.pairs.specs.NextHops.{Rows};
-ghost use Rattle.stepper.specs.Working.{Held, Workable, Heard};
+ghost use Rattle.stepper.specs.Working.{Held, Workable, Heard, ruled};
 ghost use Rattle.stepper.specs.Stepped.{Stepped};
 
 use admission::{HEARD_LENGTH, bad_offset};
-use answer::StepAnswer;
-use choice::choice_byte;
+use answer::{Refusal, Rule};
+use choice::Slots;
 use pairs::{is_listening, next_rows};
-use reader::{Reading, read};
+use reader::{Table, read};
 use rests::asked_row;
+use slices::put_at;
 use table_facts::slots_of;
 use tally::movement;
 
-// Stores a byte, where there is a place for it.
-fn store(heard: &mut [u8], at: usize, byte: u8)
-    ensures { heard.new ≡ set heard.old at byte }
-{
-    if heard.len() <= at {
-        return;
-    }
-    heard[at] = byte;
+// A listener, and the speaker that it is to hear.
+#[derive(Clone, Copy)]
+pub struct Pair {
+    pub listener: u8,
+    pub speaker: u8,
 }
 
-// Stores what u says at 64v+u, and answers the byte of v's choice then.
-pub fn hear(nexts: &[u8; 16], asked: &[u8; 16], heard: &mut [u8], v: u8, u: u8, said: u8) -> u8
-    ensures { Heard nexts.now asked.now heard.old v u said result heard.new }
+impl Pair {
+    // Where a heard state has what the listener last heard from the speaker.
+    pub fn offset(self) -> usize
+        ensures { result ≡ 64 * self.listener + self.speaker }
+    {
+        64 * self.listener as usize + self.speaker as usize
+    }
+}
+
+// Stores what the speaker says, and answers the byte of the listener's choice then.
+pub fn hear(slots: Slots<'_>, heard: &mut [u8], pair: Pair, said: u8) -> u8
+    ensures { Heard slots.entry.nexts.now slots.entry.asked.now heard.old (ruled pair) said result heard.new }
 {
-    store(heard, 64 * v as usize + u as usize, said);
-    choice_byte(nexts, asked, heard, v)
+    put_at(heard, pair.offset(), said);
+    slots.choice_byte(heard, pair.listener)
 }
 
 // Works a listening pair of an accepted table, and answers the listener's movement.
 fn work_pair(
-    table: &[u8],
+    table: Table<'_>,
     slots: &[[u16; 16]; 64],
     nexts: &[[u8; 16]; 64],
     heard: &mut [u8],
-    v: u8,
-    u: u8,
+    pair: Pair,
 ) -> i32
-    requires { Workable table.now heard.old v u × Held table.now slots.now × Rows (paths_of table.now) nexts.now }
-    ensures movement { result ≡ rules.movement (paths_of table.now) heard.old (record { listener = v; speaker = u }) }
-    ensures heard { heard.new ≡ rules.step (paths_of table.now) heard.old
-        (record { listener = v; speaker = u }) }
+    requires { Workable table.bytes.now heard.old pair.listener pair.speaker × Held table.bytes.now slots.now × Rows (paths_of table.bytes.now) nexts.now }
+    ensures movement { result ≡ rules.movement (paths_of table.entry.bytes.now) heard.old (ruled pair) }
+    ensures heard { heard.new ≡ rules.step (paths_of table.entry.bytes.now) heard.old (ruled pair) }
 {
-    let asked = asked_row(table, slots, slots[v as usize]);
-    let asking = asked_row(table, slots, slots[u as usize]);
-    let old = choice_byte(&nexts[v as usize], &asked, heard, v);
-    let said = choice_byte(&nexts[u as usize], &asking, heard, u);
-    let new = hear(&nexts[v as usize], &asked, heard, v, u, said);
+    let (v, u) = (pair.listener as usize, pair.speaker as usize);
+    let listening = Slots {
+        nexts: &nexts[v],
+        asked: &asked_row(table.bytes, slots, slots[v]),
+    };
+    let speaking = Slots {
+        nexts: &nexts[u],
+        asked: &asked_row(table.bytes, slots, slots[u]),
+    };
+    let old = listening.choice_byte(heard, pair.listener);
+    let said = speaking.choice_byte(heard, pair.speaker);
+    let new = hear(listening, heard, pair, said);
     movement(old, new)
 }
 
 // The step over an accepted table: the state is judged, then the pair.
-fn step_accepted(table: &[u8], heard: &mut [u8], listener: u8, speaker: u8) -> StepAnswer
-    requires { (refusal table.now ≡ none) × (length heard.old ≡ 4096) }
-    ensures { Stepped table.now heard.old (record { listener = listener; speaker = speaker }) result
-        heard.new }
+fn step_accepted(table: Table<'_>, heard: &mut [u8], pair: Pair) -> Result<i32, Refusal>
+    requires { length heard.old ≡ 4096 }
+    ensures { Stepped table.entry.bytes.now heard.old (ruled pair) result heard.new }
 {
-    let slots = slots_of(table);
-    let nexts = next_rows(table, &slots);
-    let at = bad_offset(&nexts, heard);
-    if at != HEARD_LENGTH {
-        return StepAnswer::Refused(12, at);
+    let slots = slots_of(table.bytes);
+    let nexts = next_rows(table.bytes, &slots);
+    if let Some(at) = bad_offset(&nexts, heard) {
+        return Err(Rule::HeardState.at(at));
     }
-    if !is_listening(&nexts, listener, speaker) {
-        return StepAnswer::Refused(14, 0);
+    if !is_listening(&nexts, pair.listener, pair.speaker) {
+        return Err(Rule::NoListener.at(0));
     }
-    StepAnswer::Moved(work_pair(table, &slots, &nexts, heard, listener, speaker))
+    Ok(work_pair(table, &slots, &nexts, heard, pair))
 }
 
 // Stores the speaker's present choice, and answers the listener's movement; a refused call changes no byte.
-pub fn step_pair(table: &[u8], heard: &mut [u8], listener: u8, speaker: u8) -> StepAnswer
+pub fn step_pair(table: &[u8], heard: &mut [u8], listener: u8, speaker: u8) -> Result<i32, Refusal>
     ensures { Stepped table.now heard.old (record { listener = listener; speaker = speaker }) result
         heard.new }
 {
     if heard.len() != HEARD_LENGTH {
-        return StepAnswer::Refused(1, 0);
+        return Err(Rule::OtherLength.at(0));
     }
-    let reading = read(table);
-    let Reading::Refused(number, place) = reading else {
-        return step_accepted(table, heard, listener, speaker);
-    };
-    StepAnswer::Refused(number, place)
+    let accepted = read(table)?;
+    step_accepted(accepted, heard, Pair { listener, speaker })
 }

@@ -18,7 +18,7 @@ const MOST_RECORDS: usize = 1008;
 // How many records of a vertex have a slot.
 pub const SLOTS: usize = 16;
 
-// What an empty slot holds.
+// What an empty slot holds: a number as the others, since 16 record numbers a vertex are a named form of 01-scope.md.
 pub const NO_RECORD: u16 = 65535;
 
 // The hops of the longest path, 0 where there is no record.
@@ -46,7 +46,8 @@ pub fn present_in(table: &[u8]) -> [bool; VERTICES]
     named
 }
 
-// The best-first slots of the first 1,008 records: 16 record numbers for each vertex, built in one pass.
+// The best-first slots of the first 1,008 records: 16 record numbers for each vertex, built in one pass. How many a vertex
+// has stands beside them and not with them, since `slots_of` answers the slots alone.
 pub fn slots_of(table: &[u8]) -> [[u16; SLOTS]; VERTICES]
     ensures { result ≡ slots_of table.now (min (records table.now) 1008) }
 {

@@ -1,5 +1,5 @@
 -- Laws of what one step counts: nothing where the rank stays, otherwise an up, a down or neither, and the step's number.
-use Rattle.std.specs.Prelude.{◌≡◌, ◌≢◌, Bool, true, false, ℕ, zero, suc, ◌-◌, ◌<◌, ◌≤◌, min, ℤ, negsuc, nat_abs, ◌+ℤ◌, ◌-ℤ◌}
+use Rattle.std.specs.Prelude.{◌≡◌, ◌≢◌, Bool, true, false, ℕ, zero, suc, ◌+◌, ◌-◌, ◌<◌, ◌≤◌, min, ℤ, negsuc, nat_abs, ◌+ℤ◌, ◌-ℤ◌}
 use Rattle.std.proofs.Math.Path.{refl}
 use Rattle.std.proofs.Common.{ap, SFits, to_z, of_z, to_z-of_z, eq-eqb, ne_eqb}
 use native.Mathlib.Omega.{arith}
@@ -36,11 +36,6 @@ small_told z d h e = rw e (to_z-of_z {w = w32} (small_fits d h))
 pub standing_zero : (r : ℕ) → r ≡ 0 → 0 ≡ standing_of r
 unfolding standing_of
 standing_zero r e = rw e
-
-pub standing_past : (r : ℕ) → 17 ≤ r → 0 ≡ standing_of r
-unfolding standing_of
-standing_past zero h = omega arith
-standing_past (suc r) h = omega arith
 
 pub standing_more : (r : ℕ) → r ≢ 0 → 17 - r ≡ standing_of r
 unfolding standing_of
@@ -96,24 +91,24 @@ module _ (old new n ups downs last : ℕ) where
 
   module _ (other : old ≢ new) (a b : ℕ) (e : a ≡ standing_of old) (f : b ≡ standing_of new) where
     -- the standing rises
-    pub counted_up : a < b → (more : ℕ) → more ≡ min (suc ups) 4294967295 → CountedStep old new n ups downs last more downs n
+    pub counted_up : a < b → (more : ℕ) → more ≡ min (ups + 1) 4294967295 → CountedStep old new n ups downs last more downs n
     unfolding more_to last_of
     counted_up h more q =
         let r = up old new a b e f h in
-        record { up = rw r.0 q; down = rw r.1; change = rw (ne_eqb old new other, last_of) }
+        record { up = rw r.0 (omega (arith, q)); down = rw r.1; change = rw (ne_eqb old new other, last_of) }
 
     -- it falls
-    pub counted_down : b < a → (more : ℕ) → more ≡ min (suc downs) 4294967295 → CountedStep old new n ups downs last ups more n
+    pub counted_down : b < a → (more : ℕ) → more ≡ min (downs + 1) 4294967295 → CountedStep old new n ups downs last ups more n
     unfolding more_to last_of
     counted_down h more q =
         let r = down old new a b e f h in
-        record { up = rw r.0; down = rw r.1 q; change = rw (ne_eqb old new other, last_of) }
+        record { up = rw r.0; down = rw r.1 (omega (arith, q)); change = rw (ne_eqb old new other, last_of) }
 
     -- or neither
-    pub counted_level : b ≤ a → a ≤ b → CountedStep old new n ups downs last ups downs n
+    pub counted_level : a ≡ b → CountedStep old new n ups downs last ups downs n
     unfolding more_to last_of
-    counted_level h l =
-        let r = level old new a b e f (omega arith) in
+    counted_level h =
+        let r = level old new a b e f h in
         record { up = rw r.0; down = rw r.1; change = rw (ne_eqb old new other, last_of) }
 
 -- where the count is not the greatest number it is one more

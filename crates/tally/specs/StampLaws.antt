@@ -5,6 +5,7 @@ use Rattle.std.proofs.Math.Path.{refl, sym, ap}
 use Rattle.std.proofs.Common.{◌∙◌, arith, length-set, get_or-set_same, get_or-set_other}
 use Rattle.std.proofs.Math.Bool.{not}
 use Rattle.std.proofs.lemmas.List.{length-replicate}
+use mir.Val.{bool_byte}
 use borrow.Author.Tests.{eq-eqb, ne_eqb, eqb-true, eqb-false}
 use Rattle.lists.specs.Search.{count_below, elem}
 use Rattle.lists.specs.Tests.{by_test, by_equal}
@@ -30,6 +31,17 @@ module _ (stamps : List ℕ) (at number s : ℕ) (told : s ≡ get_or stamps at 
   unfolding newly_at
   newly_new f = rw (ne_eqb (get_or stamps at 0) number (λ e. f (told ∙ e)), newly_at)
 
+-- the number of the open round, as it is added up
+pub number_told : (closed : ℕ) {n : ℕ} → n ≡ min (closed + 1) 65535 → n ≡ open_round closed
+number_told closed e = omega (arith, e)
+
+-- the answer is 1 where the test for another number holds
+pub newly_told : (stamps : List ℕ) (at number s : ℕ) → s ≡ get_or stamps at 0 → {n : ℕ} → n ≡ bool_byte (not (eqb s number)) → n ≡ newly_at stamps at number
+newly_told stamps at number s told e =
+    by_equal s number
+    (λ q. e ∙ rw (eq-eqb s number q) (newly_old stamps at number s told q))
+    (λ q. e ∙ rw (ne_eqb s number q) (newly_new stamps at number s told q))
+
 module _ (left : ℕ) where
   -- where none is left all are missing again
   pub missing_none : (all : ℕ) → left ≡ 0 → all ≡ missing_after left all
@@ -42,7 +54,7 @@ module _ (left : ℕ) where
   missing_some all f = rw (ne_eqb left 0 f, missing_after)
 
   -- where none is left a round has closed
-  pub closed_more : (closed next : ℕ) → left ≡ 0 → next ≡ min (suc closed) 65535 → next ≡ more_to 65535 (eqb left 0) closed
+  pub closed_more : (closed next : ℕ) → left ≡ 0 → next ≡ open_round closed → next ≡ more_to 65535 (eqb left 0) closed
   unfolding more_to
   closed_more closed next e q = q ∙ rw (eq-eqb left 0 e)
 

@@ -1,8 +1,8 @@
--- Laws of laying: one piece behind the other, what a loop that lays byte by byte has laid, and that a piece which fits
--- stands there.
-use Rattle.std.specs.Prelude.{◌≡◌, refl, List, [], ◌∷◌, ◌++◌, ℕ, zero, suc, ◌+◌, ◌-◌, ◌<◌, ◌≤◌, min, length, get_or, take, drop, set}
-use Rattle.std.proofs.Common.{sym, ap, ◌∙◌, append_assoc, arith, add-one, length-append, length-take, length-drop, length-set, take-append-drop, drop-drop}
-use Rattle.std.proofs.Math.Seq.{take-length, take-nil, drop-nil, paste, paste-zero, paste-suc}
+-- Laws of laying: one piece behind the other, a copy of as much as there is room for, and that a piece which fits stands
+-- there.
+use Rattle.std.specs.Prelude.{◌≡◌, refl, List, [], ◌∷◌, ◌++◌, ℕ, zero, suc, ◌+◌, ◌-◌, ◌≤◌, min, length, take, drop}
+use Rattle.std.proofs.Common.{sym, ap, ◌∙◌, append_assoc, arith, length-append, length-take, length-drop, take-append-drop}
+use Rattle.std.proofs.Math.Seq.{take-length, take-nil, drop-nil}
 use Rattle.lists.specs.Results.{one_result}
 use Rattle.text_writing.specs.Lay.{overlaid, Laid}
 
@@ -90,7 +90,7 @@ laid_nothing at l =
       reaches = omega arith;
     }
 
--- a loop that has laid k bytes of the piece, and has come to its end or to the buffer's
+-- as much of the piece as there is room for, copied over what stood there
 
 pasted : (new old : List ℕ) (k : ℕ) → k ≡ min (length new) (length old) → take k new ++ drop k old ≡ overlaid new old
 pasted [] old k e = let z : k ≡ 0 = omega arith in rw z (sym (overlaid_nil old))
@@ -99,53 +99,32 @@ pasted (x ∷ new) (y ∷ old) k e =
     let z : k ≡ suc (min (length new) (length old)) = omega arith in
     rw (z, overlaid_cons x y new old) (ap (λ (l : List ℕ). x ∷ l) (pasted new old _ refl))
 
--- k bytes of the piece are laid
-pub record Laying (at : ℕ) (piece before after : List ℕ) (next k : ℕ) : Type 0 where
-  pub place : next ≡ at + k
-  pub most : k ≤ length piece
-  pub room : k ≤ length before - at
-  pub long : length after ≡ length before
-  pub so_far : after ≡ paste before at piece k
+pasted_at : (at : ℕ) (piece before : List ℕ) (from count : ℕ)
+    → from ≡ min at (length before)
+    → count ≡ min (length piece) (length before - from)
+    → take from before ++ take count piece ++ drop count (drop from before) ≡ take at before ++ overlaid piece (drop at before)
+pasted_at zero piece before from count f c =
+    let z : from ≡ 0 = omega arith in
+    rw z (pasted piece before count (omega arith))
+pasted_at (suc at) piece [] from count f c =
+    let z : from ≡ 0 = omega arith in
+    let y : count ≡ 0 = omega arith in
+    rw (z, y) (sym (overlaid_none piece))
+pasted_at (suc at) piece (y ∷ before) from count f c =
+    let z : from ≡ suc (min at (length before)) = omega arith in
+    rw z (ap (λ (l : List ℕ). y ∷ l) (pasted_at at piece before _ count refl (omega arith)))
 
-pub laying_start : (at : ℕ) (piece before : List ℕ) → Laying at piece before before at 0
-laying_start at piece before =
+pub laid_copied : {at from count size : ℕ} {piece before part : List ℕ}
+    → from ≡ min at (length before)
+    → count ≡ min (length piece) (length before - from)
+    → part ≡ take count piece
+    → size ≡ count
+    → Laid at piece before (take from before ++ (part ++ drop size (drop from before))) (at + count)
+laid_copied {at} {from} {count} {size} {piece} {before} {part} f c p s =
     record {
-      place = omega arith;
-      most = omega arith;
-      room = omega arith;
-      long = refl;
-      so_far = paste-zero before at piece;
+      stands = rw (p, s, ← append_assoc) (pasted_at at piece before from count f c);
+      reaches = omega arith;
     }
-
-module _ {at : ℕ} {piece before after : List ℕ} {next k : ℕ} (l : Laying at piece before after next k) where
-  pub laying_more : next < length after
-      → k < length piece
-      → Laying at piece before (set after next (get_or piece k 0)) (next + 1) (k + 1)
-  laying_more h i =
-      record {
-        place = omega (arith, l.place);
-        most = omega arith;
-        room = omega (arith, l.place, l.long);
-        long = length-set after next (get_or piece k 0) ∙ l.long;
-        so_far = rw (l.so_far, l.place, add-one k) (paste-suc before at piece k 0 (omega (arith, l.place, l.long)) i);
-      }
-
-  laid_all : k ≡ min (length piece) (length before - at) → Laid at piece before after next
-  laid_all q =
-      let m = length-drop at before in
-      record {
-        stands = l.so_far ∙ append_assoc (take at before) (take k piece) (drop (at + k) before)
-            ∙ rw (← (drop-drop k at before), pasted piece (drop at before) k (omega arith));
-        reaches = omega (arith, l.place);
-      }
-
-  -- the buffer is full
-  pub laying_full : length after ≤ next → Laid at piece before after next
-  laying_full h = laid_all (omega (arith, l.place, l.most, l.room, l.long))
-
-  -- the piece is laid
-  pub laying_end : length piece ≤ k → Laid at piece before after next
-  laying_end h = laid_all (omega (arith, l.most, l.room))
 
 -- a piece that fits stands at the front afterwards
 pub laid_fits : {piece before after : List ℕ} {n : ℕ}

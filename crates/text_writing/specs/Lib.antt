@@ -1,7 +1,8 @@
--- A piece laid over a list of bytes: the definitions.
+-- A piece laid over a list of bytes, and by a writer: the definitions.
 pub mod Lay
-pub mod Digits
+pub mod Writes
 -- The laws.
 pub mod LayLaws
+pub mod WritesLaws
 pub mod DigitLaws
 pub mod SignedLetterLaws

@@ -1,12 +1,11 @@
-// Letters into a lent buffer, laid from a place on, as far as they fit: pieces, decimal numbers, and the words that
-// every printed text shares.
+// Letters laid into a lent buffer from a place on, as far as they fit: pieces, decimal numbers, and the words that every
+// printed text shares.
 #![tactic(auto)]
 
-ghost use Rattle.std.specs.Prelude.{◌≡◌, ◌++◌, nat_abs};
+ghost use Rattle.std.specs.Prelude.{◌≡◌, ◌++◌};
 ghost use Rattle.rules.specs.Text.{decimal, spaced, route_words, place_words, refused_line};
 ghost use Rattle.rules.specs.RunText.{signed};
-ghost use Rattle.text_writing.specs.Lay.{Laid};
-ghost use Rattle.text_writing.specs.Digits.{Written};
+ghost use Rattle.text_writing.specs.Writes.{Writes};
 
 // The letter 0; those of the other digits follow it.
 const ZERO: u8 = 48;
@@ -14,128 +13,107 @@ const ZERO: u8 = 48;
 // So many digits hold every number that is printed.
 const DIGITS: usize = 10;
 
-// Lays the piece from a place on, and answers the place behind it.
-pub fn put(text: &mut [u8], at: usize, piece: &[u8]) -> usize
-    ensures { Laid at piece.now text.old text.new result }
-{
-    let mut next = at;
-    let mut k = 0;
-    while k < piece.len() {
-        if text.len() <= next {
-            return next;
-        }
-        text[next] = piece[k];
-        next += 1;
-        k += 1;
-    }
-    next
-}
-
-// Writes the decimal digits of a number to the end of a buffer, and answers the place of the first.
-fn write_digits(digits: &mut [u8], n: usize) -> usize
-    ensures { Written n digits.old digits.new result }
+// Writes the decimal digits of a number to the end of a buffer, the last ten at most, and answers them.
+// By hand, since `write!` promises its text only with an Ok, which no contract promises, and std's `decimal` has them all.
+fn write_digits(digits: &mut [u8; DIGITS], n: usize) -> &[u8]
+    ensures { result.now ≡ decimal n }
 {
     let mut rest = n;
-    let mut at = digits.len();
-    while 0 < at {
-        at -= 1;
+    for at in (0..DIGITS).rev() {
         digits[at] = ZERO + (rest % 10) as u8;
-        rest = rest / 10;
+        rest /= 10;
         if rest == 0 {
-            return at;
+            return &digits[at..];
         }
     }
-    at
+    digits
 }
 
-// Lays a number in decimal from a place on, and answers the place behind it.
-pub fn put_number(text: &mut [u8], at: usize, n: usize) -> usize
-    ensures { Laid at (decimal n) text.old text.new result }
-{
-    let mut digits = [0u8; DIGITS];
-    let from = write_digits(&mut digits, n);
-    put(text, at, &digits[from..])
+// A lent buffer, and the place behind what is laid there.
+#[derive(Drop)]
+pub struct Writer<'a> {
+    pub text: &'a mut [u8],
+    pub at: usize,
 }
 
-// The size of a number without its sign; one below 0 is first taken from -1, since the least has no counterpart above 0.
-fn size_of(n: i32) -> usize
-    ensures { result ≡ nat_abs n }
-{
-    if 0 <= n {
-        return n as usize;
+impl Writer<'_> {
+    // Lays a piece, as far as it fits.
+    pub fn put(&mut self, piece: &[u8])
+        ensures { Writes piece.now self.old self.new }
+    {
+        let from = self.at.min(self.text.len());
+        let count = piece.len().min(self.text.len() - from);
+        self.text[from..from + count].copy_from_slice(&piece[..count]);
+        self.at += count;
     }
-    (-1 - n) as usize + 1
-}
 
-// Lays a number with its sign.
-pub fn put_signed(text: &mut [u8], at: usize, n: i32) -> usize
-    ensures { Laid at (signed n) text.old text.new result }
-{
-    if 0 <= n {
-        return put_number(text, at, size_of(n));
+    // A number in decimal.
+    pub fn number(&mut self, n: usize)
+        ensures { Writes (decimal n) self.old self.new }
+    {
+        let mut digits = [0; DIGITS];
+        self.put(write_digits(&mut digits, n));
     }
-    let sign = put(text, at, b"-");
-    put_number(text, sign, size_of(n))
-}
 
-// A word and its number.
-pub fn put_labelled(text: &mut [u8], at: usize, word: &[u8], n: usize) -> usize
-    ensures { Laid at (word.now ++ decimal n) text.old text.new result }
-{
-    let said = put(text, at, word);
-    put_number(text, said, n)
-}
-
-// Each vertex after a space.
-pub fn put_spaced(text: &mut [u8], at: usize, vertices: &[u8]) -> usize
-    ensures { Laid at (spaced vertices.now) text.old text.new result }
-{
-    let mut next = at;
-    let mut k = 0;
-    while k < vertices.len() {
-        next = put_labelled(text, next, b" ", vertices[k] as usize);
-        k += 1;
-    }
-    next
-}
-
-// `rank 1 path 1 0`, or `none`.
-pub fn put_route(text: &mut [u8], at: usize, rank: u8, path: &[u8]) -> usize
-    ensures { Laid at (route_words rank path.now) text.old text.new result }
-{
-    if rank == 0 {
-        return put(text, at, b" none");
-    }
-    let said = put_labelled(text, at, b" rank ", rank as usize);
-    let next = put(text, said, b" path");
-    put_spaced(text, next, path)
-}
-
-// The place of a refusal that has one, under its name.
-fn put_place(text: &mut [u8], at: usize, number: u8, place: usize) -> usize
-    ensures { Laid at (place_words number place) text.old text.new result }
-{
-    match number {
-        4..=11 => {
-            return put_labelled(text, at, b" record ", place);
+    // A number with its sign.
+    pub fn signed(&mut self, n: i32)
+        ensures { Writes (signed n) self.old self.new }
+    {
+        if n < 0 {
+            self.put(b"-");
         }
-        12 => {
-            return put_labelled(text, at, b" offset ", place);
-        }
-        14 => {
-            return put_labelled(text, at, b" pair ", place);
-        }
-        _ => {
-            return at;
+        self.number(n.unsigned_abs() as usize);
+    }
+
+    // A word and its number.
+    pub fn labelled(&mut self, word: &[u8], n: usize)
+        ensures { Writes (word.now ++ decimal n) self.old self.new }
+    {
+        self.put(word);
+        self.number(n);
+    }
+
+    // Each vertex after a space.
+    pub fn spaced(&mut self, vertices: &[u8])
+        ensures { Writes (spaced vertices.now) self.old self.new }
+    {
+        for &vertex in vertices {
+            self.labelled(b" ", vertex as usize);
         }
     }
-}
 
-// `refused 9 record 2`, or `refused 3`.
-pub fn put_refused(text: &mut [u8], number: u8, place: usize) -> usize
-    ensures { Laid 0 (refused_line number place) text.old text.new result }
-{
-    let said = put_labelled(text, 0, b"refused ", number as usize);
-    let placed = put_place(text, said, number, place);
-    put(text, placed, b"\n")
+    // `rank 1 path 1 0`, or `none`.
+    pub fn route(&mut self, rank: u8, path: &[u8])
+        ensures { Writes (route_words rank path.now) self.old self.new }
+    {
+        if rank == 0 {
+            self.put(b" none");
+        } else {
+            self.labelled(b" rank ", rank as usize);
+            self.put(b" path");
+            self.spaced(path);
+        }
+    }
+
+    // The place of a refusal that has one, under its name.
+    fn place(&mut self, number: u8, place: usize)
+        ensures { Writes (place_words number place) self.old self.new }
+    {
+        let word: &[u8] = match number {
+            4..=11 => b" record ",
+            12 => b" offset ",
+            14 => b" pair ",
+            _ => return,
+        };
+        self.labelled(word, place);
+    }
+
+    // `refused 9 record 2`, or `refused 3`.
+    pub fn refused(&mut self, number: u8, place: usize)
+        ensures { Writes (refused_line number place) self.old self.new }
+    {
+        self.labelled(b"refused ", number as usize);
+        self.place(number, place);
+        self.put(b"\n");
+    }
 }

@@ -12,6 +12,7 @@ pub fn read_full<R: Read>(reader: &mut R, buffer: &mut [u8]) -> io::Result<usize
     ensures { IfOk result (λ count. count ≤ length buffer.new) }
 {
     let mut count = 0;
+    // No range counts these turns: each read says how far it went.
     while count < buffer.len() {
         let got = reader.read(&mut buffer[count..])?;
         if got == 0 {

@@ -13,9 +13,9 @@ use Rattle.laws.specs.EntryLaws.{four_length, words_length, sum_word}
 use Rattle.words.specs.Words.{overwritten}
 
 -- the library's bytes of a number, low byte first, are the page's
-pub word_written : (n : ℕ) → to_le_bytes w32 n ≡ four_bytes n
+pub four_bytes_are : (n : ℕ) → to_le_bytes w32 n ≡ four_bytes n
 unfolding four_bytes
-word_written n = refl
+four_bytes_are n = refl
 
 -- numbers end to end, in a walk that has come to k
 module _ (ns : List ℕ) where

@@ -1,19 +1,13 @@
 -- `check_lines::put_ring` meets its contract: three pieces behind each other.
 -- Assumes nothing.
-use mathlib.Core.Path.{sym}
-use native.Mathlib.Omega.{arith}
-use lib.Seq.{length-take-le}
-use Rattle.rules.specs.Text.{codes}
-use Rattle.laws.specs.TextLaws.{ring_part}
-use Rattle.text_writing.specs.LayLaws.{laid_then, laid_as}
+use Rattle.std.proofs.Common.{◌≡◌, ap, arith, take}
+use Rattle.std.proofs.lemmas.Grind.{common_steps}
+use Rattle.rules.specs.Text.{codes, spaced, ring_line}
+use Rattle.text_writing.specs.WritesLaws.{writes_then, writes_as}
 use Rattle.check_lines.proofs.put_ring.Goals as goal
 
-pub slice_bounds-put_spaced-end : goal.slice_bounds-put_spaced-end
-slice_bounds-put_spaced-end c = sym (length-take-le _ _ (omega (arith, c.at_most-end.ensures)))
-
 pub returns : goal.returns
-unfolding codes
+unfolding codes ring_line
 returns c =
-    laid_as (laid_then (laid_then c.put-word.ensures c.put_spaced-said.ensures)
-    c.put.ensures)
-    (ring_part _ _ _ c.at_most-end.ensures)
+    let part : c.unwrap_or.result.now ≡ take c.args.size c.args.ring.now = grind (arith, common_steps) in
+    writes_then (writes_then c.put.ensures (writes_as c.spaced.ensures (ap spaced part))) c.put-2.ensures

@@ -2,13 +2,13 @@
 -- Assumes nothing.
 use Rattle.rules.specs.Text.{codes, labelled, verdict_line}
 use Rattle.answer.specs.Meaning.{numbers}
-use Rattle.text_writing.specs.LayLaws.{laid_then}
+use Rattle.text_writing.specs.WritesLaws.{writes_then}
 use Rattle.check_lines.proofs.put_verdict.Goals as goal
 
 pub returns : goal.returns
 unfolding codes labelled verdict_line numbers
 returns c =
-    let words = laid_then c.put-first.ensures c.put-named.ensures in
-    let both = laid_then (laid_then words c.put_labelled-settled.ensures) c.put_labelled-stuck.ensures in
-    let all = laid_then (laid_then both c.put_labelled-stages.ensures) c.put_labelled-longest.ensures in
-    laid_then all c.put.ensures
+    let words = writes_then c.put.ensures c.put-2.ensures in
+    let both = writes_then (writes_then words c.labelled.ensures) c.labelled-2.ensures in
+    let all = writes_then (writes_then both c.labelled-3.ensures) c.labelled-4.ensures in
+    writes_then all c.put-3.ensures

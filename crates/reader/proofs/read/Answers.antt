@@ -19,9 +19,12 @@ returns-then-length-ne0-clause-refusal c =
 pub loop-i-init : goal.loop-i-init
 loop-i-init c = record { orderly = orderly_none _; still = all_to_find _ }
 
-pub fault_of-requires : goal.fault_of-requires
+pub invariant_of-entry : goal.invariant_of-entry
 unfolding records
-fault_of-requires c = (omega arith, c.loop-i.invariant.orderly)
+invariant_of-entry c = record { there = omega arith }
+
+pub fault-requires : goal.fault-requires
+fault-requires c = c.loop-i.invariant.orderly
 
 pub returns-in-Err-clause-refusal : goal.returns-in-Err-clause-refusal
 unfolding records

@@ -1,16 +1,15 @@
 -- `rests::rest_of` meets its contract: the part from 1 on, and of no vertices none.
 -- Assumes nothing.
-use mathlib.Core.Path.{sym}
-use native.Mathlib.Omega.{arith}
-use lib.ListN.{drop_of_length-le}
+use Rattle.std.proofs.Common.{sym, arith}
+use Rattle.std.proofs.Math.ListN.{drop_of_length-le}
 use Rattle.lists.specs.Parts.{part_to_end}
 use Rattle.rules.specs.Table.{rest}
 use Rattle.rests.proofs.rest_of.Goals as goal
 
-pub returns-then-path-eq0 : goal.returns-then-path-eq0
+pub returns-in-empty : goal.returns-in-empty
 unfolding rest
-returns-then-path-eq0 c = sym (drop_of_length-le c.args.path.now {i = 1} (omega arith))
+returns-in-empty c = sym (drop_of_length-le c.args.path.now {i = 1} (omega arith))
 
-pub returns : goal.returns
+pub returns-in-len1-up : goal.returns-in-len1-up
 unfolding rest
-returns c = part_to_end c.args.path.now 1
+returns-in-len1-up c = part_to_end c.args.path.now 1

@@ -1,10 +1,7 @@
-use Prim.Native.Nat.{◌≤◌, ◌-◌}
+use Rattle.std.proofs.Common.{◌-◌}
 use Rattle.rules.specs.Text.{row_lines}
-use Rattle.text_writing.specs.Lay.{Laid}
+use Rattle.text_writing.specs.Writes.{Writes}
 use Rattle.row_lines.proofs.put_rows.Given as goal
 
 abbrev pub invariant-loop-v : goal.invariant-loop-v
-invariant-loop-v l = (l.v ≤ 63) × Laid l.at (row_lines l.rows l.v) l.initial.text l.text l.next
-
-abbrev pub decreases-loop-v : goal.decreases-loop-v
-decreases-loop-v l = 63 - l.v
+invariant-loop-v l = Writes (row_lines l.rows (l.v - 1)) l.initial.writer l.writer

@@ -3,6 +3,7 @@
 use mathlib.Core.Path.{ap, ◌∙◌}
 use mathlib.Core.List.{List}
 use Prim.Native.Nat.{ℕ}
+use Rattle.std.specs.Prelude.{Ok}
 use Rattle.answer.specs.Moves.{run_numbers_in}
 use Rattle.words.specs.Words.{overwritten}
 use Rattle.words.specs.WordLaws.{zeros_behind}
@@ -12,4 +13,4 @@ pub returns : goal.returns
 unfolding run_numbers_in
 returns c =
     c.write_numbers.ensures
-    ∙ ap (λ (l : List ℕ). overwritten l c.args.bytes.now) (zeros_behind (run_numbers_in c.args.answer) 3)
+    ∙ ap (λ (l : List ℕ). overwritten l c.args.bytes.now) (zeros_behind (run_numbers_in (Ok c.args.answer)) 3)

@@ -3,13 +3,12 @@
 use Rattle.rules.specs.Text.{codes, labelled}
 use Rattle.rules.specs.RunText.{run_line}
 use Rattle.answer.specs.Moves.{run_numbers_in}
-use Rattle.text_writing.specs.LayLaws.{laid_then}
+use Rattle.text_writing.specs.WritesLaws.{writes_then}
 use Rattle.run_lines.proofs.put_numbers.Goals as goal
 
 pub returns : goal.returns
 unfolding codes labelled run_line run_numbers_in
 returns c =
-    let moves = laid_then (laid_then c.put_labelled-steps.ensures c.put_labelled-ups.ensures)
-    c.put_labelled-downs.ensures in
-    let all = laid_then (laid_then moves c.put_labelled-last.ensures) c.put_labelled-rounds.ensures in
-    laid_then all c.put.ensures
+    let moves = writes_then (writes_then c.labelled.ensures c.labelled-2.ensures) c.labelled-3.ensures in
+    let all = writes_then (writes_then moves c.labelled-4.ensures) c.labelled-5.ensures in
+    writes_then all c.put.ensures

@@ -1,16 +1,11 @@
--- `run_lines::ranked_record` meets its contract: rank 0 and the ranks past the slots have none.
+-- `run_lines::ranked_record` meets its contract: rank 0 has none, another its slot.
 -- Assumes nothing.
-use native.Mathlib.Omega.{arith}
-use Rattle.run_lines.specs.ShownLaws.{ranked_none, ranked_past, ranked_some}
+use Rattle.std.proofs.Common.{◌∙◌, arith}
+use Rattle.run_lines.specs.ShownLaws.{ranked_none, ranked_some}
 use Rattle.run_lines.proofs.ranked_record.Goals as goal
 
-pub returns-then-rank-eq0 : goal.returns-then-rank-eq0
-returns-then-rank-eq0 c = ranked_none _ _ (omega arith)
+pub returns-in-0 : goal.returns-in-0
+returns-in-0 c = ranked_none _ _ c.in-0.is
 
-pub returns-then-rank-gt-MOST_RANK : goal.returns-then-rank-gt-MOST_RANK
-returns-then-rank-gt-MOST_RANK c =
-    ranked_past _ _ (omega arith)
-
-pub returns : goal.returns
-returns c =
-    ranked_some _ _ (λ e. omega arith) (omega arith)
+pub returns-in_default : goal.returns-in_default
+returns-in_default c = c.value_or.ensures ∙ ranked_some _ _ (λ e. omega arith)

@@ -2,7 +2,4 @@ use Rattle.text_writing.specs.DigitLaws.{Writing}
 use Rattle.text_writing.proofs.write_digits.Given as goal
 
 abbrev pub invariant-loop-at : goal.invariant-loop-at
-invariant-loop-at l = Writing l.n l.initial.digits l.digits l.rest l.at
-
-abbrev pub decreases-loop-at : goal.decreases-loop-at
-decreases-loop-at l = l.at
+invariant-loop-at l = Writing l.n l.digits l.rest l.at

@@ -2,7 +2,7 @@
 -- Assumes nothing.
 use mathlib.Core.Path.{◌∙◌}
 use native.Mathlib.Omega.{arith}
-use Rattle.words.specs.WordLaws.{word_written, words_none, words_more, words_all}
+use Rattle.words.specs.WordLaws.{four_bytes_are, words_none, words_more, words_all}
 use Rattle.words.proofs.write_words.Goals as goal
 
 pub loop-k-init : goal.loop-k-init
@@ -11,7 +11,7 @@ loop-k-init c = record { long = c.requires; written = words_none _ c.args.bytes.
 pub loop-k-preserved : goal.loop-k-preserved
 loop-k-preserved c =
     let l = c.loop-k in
-    let word = c.copy_from_slice.ensures.after ∙ c.to_le_bytes.ensures ∙ word_written _ in
+    let word = c.copy_from_slice.ensures.after ∙ c.to_le_bytes.ensures ∙ four_bytes_are _ in
     let more = words_more _ l.bytes _ l.k l.invariant.long c.loop-k-test.true word l.invariant.written in
     record { long = more.0; written = more.1 }
 

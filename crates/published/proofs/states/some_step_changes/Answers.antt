@@ -1,25 +1,16 @@
--- `published::states::some_step_changes` meets its contract: no pair below k has changed the state.
+-- `published::states::some_step_changes` meets its contract: `any` asks the step at each pair.
 -- Assumes nothing.
-use mathlib.Core.Path.{sym, ◌∙◌}
-use native.Mathlib.Omega.{arith}
-use Rattle.published.specs.StateLaws.{change_start, change_found, change_next, change_none}
+use Rattle.std.proofs.Common.{rules, ◌∙◌}
+use Rattle.std.proofs.Math.Path.{refl}
+use Rattle.std.proofs.lemmas.Iterator.{YieldsList-from_range}
+use Rattle.std.proofs.lemmas.Iterator.Search.{any_from_yields_List}
+use Rattle.theorems.specs.Published.{changes_at, some_step_changes}
+use Rattle.published.specs.StateLaws.{any_ranged}
 use Rattle.published.proofs.states.some_step_changes.Goals as goal
 
-pub loop-k-init : goal.loop-k-init
-loop-k-init c = (omega arith, change_start _ _)
-
-pub changes_at-requires : goal.changes_at-requires
-changes_at-requires c = c.loop-k-test.true
-
-pub returns-then-changes_at : goal.returns-then-changes_at
-returns-then-changes_at c =
-    change_found _ _ _ c.loop-k-test.true (sym c.changes_at.ensures ∙ c.if-changes_at.true)
-
-pub loop-k-preserved : goal.loop-k-preserved
-loop-k-preserved c = (
-  omega arith,
-  change_next _ _ _ c.loop-k.invariant.1 (sym c.changes_at.ensures ∙ c.if-changes_at.false),
-)
-
 pub returns : goal.returns
-returns c = change_none _ _ _ c.loop-k-test.false c.loop-k.invariant.0 c.loop-k.invariant.1
+unfolding some_step_changes
+returns c =
+    let test = changes_at c.args.table.now c.args.heard in
+    any_from_yields_List test _ _ _ c.any.ensures.ran (YieldsList-from_range 0 4096 4096 refl refl) (λ x b q k. search rules)
+    ∙ any_ranged test 4096

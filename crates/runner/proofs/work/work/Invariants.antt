@@ -1,5 +1,3 @@
-use Prim.Native.Nat.{◌≤◌, ◌-◌, ◌/◌}
-use lib.ListN.{length}
 use Rattle.rules.specs.Table.{paths_of}
 use Rattle.run_admission.specs.RunAdmitted.{Ready}
 use Rattle.stepper.specs.Working.{Asks}
@@ -7,10 +5,6 @@ use Rattle.runner.specs.Going.{Going}
 use Rattle.runner.proofs.work.work.Given as goal
 
 abbrev pub invariant-loop-i : goal.invariant-loop-i
-invariant-loop-i l = (l.i ≤ length l.schedule / 2)
-    × Ready l.table l.initial.heard l.schedule l.nexts l.rounds
+invariant-loop-i l = Ready l.table l.fn.heard l.schedule l.nexts l.admitted.rounds
     × Asks (paths_of l.table) l.asked
-    × Going l.table l.initial.heard l.schedule l.i l.heard l.choices l.sums l.counts.ups l.counts.downs l.counts.last
-
-abbrev pub decreases-loop-i : goal.decreases-loop-i
-decreases-loop-i l = length l.schedule / 2 - l.i
+    × Going l.table l.fn.heard l.schedule l.i l.heard l.choices l.sums l.counts.ups l.counts.downs l.counts.last

@@ -1,4 +1,0 @@
--- What a run from a heard state leaves.
-pub mod RanFrom
--- The laws.
-pub mod PartLaws

@@ -1,8 +1,0 @@
-use mathlib.Core.Path.{◌≡◌}
-use mathlib.Core.Bool.{false}
-use Rattle.lists.specs.Search.{any_below}
-use Rattle.laws.specs.TableLaws.{same_path}
-use Rattle.reader.proofs.faults.path_bad.Given as goal
-
-abbrev pub invariant-loop-j : goal.invariant-loop-j
-invariant-loop-j l = any_below (same_path l.table l.i) l.j ≡ false
