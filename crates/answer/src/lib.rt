@@ -31,7 +31,8 @@ impl From<Rule> for u8 {
     }
 }
 
-// The number of the rule that is broken, and the place where.
+// The number of the rule that is broken, and the place where. A number and no `Rule`, since `reporter::refused`, the
+// writer's `refused` and `code_of` take any number, as `Verdict::Refused` has it.
 #[derive(Clone, Copy, Debug, PartialEq, Eq)]
 pub struct Refusal {
     pub number: u8,
@@ -50,8 +51,8 @@ impl Rule {
     }
 }
 
-// Complete, stuck with the ring's length, or refused with number and place: a named form of 01-scope.md, as is the struct
-// beside it, so no `Result` stands here.
+// Complete, stuck with the ring's length, or refused with number and place: a named form (docs/DECISIONS.md), as is the
+// struct beside it, so no `Result` stands here.
 #[derive(Clone, Copy)]
 pub enum Verdict {
     Complete,

@@ -30,7 +30,7 @@ pub struct Slots<'a> {
 
 impl Slots<'_> {
     // The first of v's slots, in rank order, whose rest is what v last heard from the next hop, or none at the end: by the
-    // named form of 01-scope.md, a loop over the owner's slots that yields the found slot by `break`.
+    // named form (docs/DECISIONS.md), a loop over the owner's slots that yields the found slot by `break`.
     fn choose(self, heard: &[u8], v: u8) -> Option<u8>
         ensures { found_byte result ≡ chosen_slot self.entry.nexts.now self.entry.asked.now heard.now v }
     {

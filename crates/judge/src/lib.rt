@@ -17,7 +17,7 @@ pub const ABSENT: u8 = 254;
 pub const WAITING: u8 = 255;
 
 // A mark for each vertex (its stage, 254 absent, 255 waiting) and the record of the path that it holds or waits for,
-// 65,535 for none: two arrays of numbers, as `report` and `write_rows` want them; and marks alone are compared.
+// 65,535 for none. Two arrays of numbers, since the report is made for any marks and records (docs/DECISIONS.md).
 #[derive(Clone, Copy)]
 pub struct Standing {
     pub marks: [u8; VERTICES],

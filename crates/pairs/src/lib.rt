@@ -48,7 +48,7 @@ pub fn next_hops(table: &[u8]) -> [[u8; 16]; 64]
     next_rows(table, &slots)
 }
 
-// The first slot that leads to u, 16 where none does: a number, since callers compare it with the slots (`k <= ..`).
+// The first slot that leads to u, 16 where none does: a number, one past the last, as `steady_slot_to` finds it.
 pub fn slot_to(nexts: &[u8; 16], u: u8) -> usize
     ensures { result ≡ slot_to nexts.now u }
 {
@@ -60,8 +60,8 @@ pub fn slot_to(nexts: &[u8; 16], u: u8) -> usize
     SLOTS
 }
 
-// The same slot, found without a branch on the bytes: in the inner loop of a run, where a speaker cannot be foretold, to look
-// at all 16 takes less time.
+// The same slot, found without a branch on the bytes, so neither by `position` nor as an `Option`: in the inner loop of a
+// run, where a speaker cannot be foretold, to look at all 16 takes less time.
 pub fn steady_slot_to(nexts: &[u8; 16], u: u8) -> usize
     ensures { result ≡ slot_to nexts.now u }
 {

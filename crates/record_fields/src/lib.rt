@@ -1,6 +1,6 @@
 // The fields of a record, for any bytes and any record number: past the table's end a record is empty, and its fields
-// are 0. A table and a number, and no struct of both: a loop keeps the one and changes the other, and the rows that the
-// check lends are read so too.
+// are 0. A table and a number, and no struct of both, since any number will do here; the reader's `Entry` is one that is
+// there.
 #![tactic(auto)]
 
 ghost use Rattle.std.specs.Prelude.{◌≡◌};

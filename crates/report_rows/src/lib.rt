@@ -36,7 +36,7 @@ fn write_row(part: &mut [u8], mark: u8, rank: u8, path: &[u8])
 }
 
 // Writes all rows: that of vertex 0, whose path is no record, then those that show their records. The part of a vertex is
-// lent on from 16 times its number, a named form of 01-scope.md.
+// lent on from 16 times its number, a named form (docs/DECISIONS.md).
 fn fill_rows(table: &[u8], marks: &[u8; VERTICES], shown: &[u16; VERTICES], rows: &mut [u8])
     requires { length rows.old ≡ 1024 }
     ensures { rows.new ≡ blocks (shown_row table.now marks.now shown.now) 64 }

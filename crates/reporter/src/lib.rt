@@ -46,7 +46,7 @@ pub fn refused(number: u8, place: usize) -> Answer
     }
 }
 
-// Complete where the ring has no vertex, otherwise stuck.
+// Complete where the ring has no vertex, as `Ringed` counts it, otherwise stuck.
 fn verdict_of(count: u8) -> Verdict
     ensures { Found result count }
 {

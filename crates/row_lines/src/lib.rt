@@ -10,7 +10,7 @@ use slices::value_or;
 use table_facts::VERTICES;
 use text_writing::Writer;
 
-// The first byte of a row that waits, and of one whose vertex is absent; otherwise it is the stage.
+// The first byte of a row that waits, and of one whose vertex is absent, as C reads it too; otherwise it is the stage.
 const STUCK: u8 = 255;
 
 const ABSENT: u8 = 254;

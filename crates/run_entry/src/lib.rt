@@ -50,6 +50,7 @@ pub fn run_for_c(
             write_run(numbers, answer);
             0
         }
+        // A cast, since there is no `From` of a usize; the place is small by `run_small`.
         Err(refusal) => code_of(refusal.number, refusal.place as u32),
     }
 }

@@ -59,7 +59,7 @@ pub fn has_twice(part: &[u8]) -> bool
     false
 }
 
-// Whether two parts are the same.
+// Whether two parts are the same; by this name, since clauses say `same`, which `==` is by `pointwise_same`.
 pub fn same_parts(a: &[u8], b: &[u8]) -> bool
     ensures { result ≡ same a.now b.now }
 {

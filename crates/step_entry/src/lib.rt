@@ -26,6 +26,7 @@ pub fn step_for_c(
             write_numbers(numbers, [complement(moved), 0, 0, 0, 0, 0, 0, 0]);
             0
         }
+        // A cast, since there is no `From` of a usize; the place is small by `step_small`.
         Err(refusal) => code_of(refusal.number, refusal.place as u32),
     }
 }

@@ -18,7 +18,7 @@ const MOST_RECORDS: usize = 1008;
 // How many records of a vertex have a slot.
 pub const SLOTS: usize = 16;
 
-// What an empty slot holds: a number as the others, since 16 record numbers a vertex are a named form of 01-scope.md.
+// What an empty slot holds: a number as the others, since 16 record numbers a vertex are a named form (docs/DECISIONS.md).
 pub const NO_RECORD: u16 = 65535;
 
 // The hops of the longest path, 0 where there is no record.

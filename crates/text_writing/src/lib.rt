@@ -82,7 +82,7 @@ impl Writer<'_> {
         }
     }
 
-    // `rank 1 path 1 0`, or `none`.
+    // `rank 1 path 1 0`, or `none` at rank 0, as `route_words` has it.
     pub fn route(&mut self, rank: u8, path: &[u8])
         ensures { Writes (route_words rank path.now) self.old self.new }
     {
@@ -95,7 +95,7 @@ impl Writer<'_> {
         }
     }
 
-    // The place of a refusal that has one, under its name.
+    // The place of a refusal that has one, under its name; of any number, as `Verdict::Refused` has it.
     fn place(&mut self, number: u8, place: usize)
         ensures { Writes (place_words number place) self.old self.new }
     {

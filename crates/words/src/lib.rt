@@ -19,7 +19,7 @@ pub const SUMS_LENGTH: usize = 256;
 // What an entry returns where a buffer has another length: refusal 1, place 0. It stays a number, as C reads it.
 pub const WRONG_LENGTH: u64 = 1;
 
-// A refusal as one number: the place stands above the number's byte.
+// A refusal as one number: the place stands above the number's byte. Of any number, as `Verdict::Refused` has it.
 #[tactic(auto, unfolding(rules::specs::Entries::code_of))]
 pub fn code_of(number: u8, place: u32) -> u64
     ensures { result ≡ code_of (some (record { number = number; place = place })) }
