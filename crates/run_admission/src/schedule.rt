@@ -38,8 +38,8 @@ pub(crate) fn walk_schedule(nexts: &[[u8; 16]; 64], schedule: &[u8]) -> Result<u
         missing: all,
         all,
     };
-    for i in 0..schedule.len() / 2 {
-        let Some(number) = number_of(nexts, schedule[2 * i], schedule[2 * i + 1]) else {
+    for (i, pair) in schedule.chunks_exact(2).enumerate() {
+        let Some(number) = number_of(nexts, pair[0], pair[1]) else {
             return Err(i);
         };
         rounds.activate(&mut stamps, number);
