@@ -29,12 +29,11 @@ pub(crate) fn work(
     let asked = asked_bytes(table);
     let mut choices = choice_bytes(nexts, &asked, heard);
     let mut counts = Counts::default();
-    let steps = schedule.len() / 2;
     sums.fill(0);
-    for i in 0..steps {
+    for (i, bytes) in schedule.chunks_exact(2).enumerate() {
         let pair = Pair {
-            listener: schedule[2 * i],
-            speaker: schedule[2 * i + 1],
+            listener: bytes[0],
+            speaker: bytes[1],
         };
         let number = i as u32 + 1;
         counts = hear_pair(
@@ -49,7 +48,7 @@ pub(crate) fn work(
         );
     }
     RunAnswer {
-        steps: steps as u32,
+        steps: (schedule.len() / 2) as u32,
         ups: counts.ups,
         downs: counts.downs,
         last: counts.last,
