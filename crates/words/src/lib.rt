@@ -32,6 +32,7 @@ fn write_words(bytes: &mut [u8], words: &[u32])
     requires { length bytes.old ≡ 4 * length words.now }
     ensures { bytes.new ≡ word_bytes (length words.now) words.now }
 {
+    // By place: tried with `chunks_exact_mut`, and a proof knew none of the bytes once the chunks' borrow was over.
     for (k, word) in words.iter().enumerate() {
         let at = k * WORD_LENGTH;
         bytes[at..at + WORD_LENGTH].copy_from_slice(&word.to_le_bytes());
