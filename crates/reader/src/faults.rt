@@ -45,8 +45,7 @@ impl<'a> Entry<'a> {
         any_outside(0, LAST_VERTEX, path_at(self.table, self.i))
     }
 
-    // Refusal 6: the unused bytes stand from the path's end to byte 14, and `any_outside` asks of them what `filler_bad`
-    // does.
+    // Refusal 6: the unused bytes stand from the path's end to byte 14; `any_outside`, since `filler_bad` says it so.
     fn filler_bad(self) -> bool
         requires { hops_at self.table.now self.i ≤ 12 }
         ensures { result ≡ filler_bad (record_at self.entry.table.now self.entry.i) }
