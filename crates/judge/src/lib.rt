@@ -1,7 +1,7 @@
 // The compatibility judgement and one stage, for any bytes.
 #![tactic(auto)]
 
-ghost use Rattle.std.specs.Prelude.{◌≡◌, ◌<◌, position};
+ghost use Rattle.std.specs.Prelude.{◌≡◌, position};
 ghost use Rattle.rules.specs.Greedy.{compatible};
 ghost use Rattle.judge.specs.Standing.{is_in, held_path, settled_by, first_compatible, enters_by, is_judged};
 ghost use Rattle.judge.specs.Staged.{Staged};
@@ -36,10 +36,9 @@ impl Standing {
     // Whether a vertex is judged in this stage: it is present and unsettled.
     #[tactic(auto, unfolding(crate::specs::Standing::is_judged))]
     fn is_judged(&self, v: usize) -> bool
-        requires { v < 64 }
         ensures { result ≡ is_judged self.now.marks v }
     {
-        self.marks[v] == WAITING
+        value_or(&self.marks, v, ABSENT) == WAITING
     }
 
     // The path that a settled vertex holds; vertex 0 has (0), which no record is.

@@ -49,6 +49,7 @@ pub fn next_hops(table: &[u8]) -> [[u8; 16]; 64]
 }
 
 // The first slot that leads to u, 16 where none does: a number, one past the last, as `steady_slot_to` finds it.
+#[tactic(auto, using(lists::specs::SearchLaws::search_next, crate::specs::NextHopLaws::slot_hit, crate::specs::NextHopLaws::slot_end))]
 pub fn slot_to(nexts: &[u8; 16], u: u8) -> usize
     ensures { result ≡ slot_to nexts.now u }
 {
@@ -62,6 +63,7 @@ pub fn slot_to(nexts: &[u8; 16], u: u8) -> usize
 
 // The same slot, found without a branch on the bytes, so neither by `position` nor as an `Option`: in the inner loop of a
 // run, where a speaker cannot be foretold, to look at all 16 takes less time.
+#[tactic(auto, using(crate::specs::NextHopLaws::from_none, crate::specs::NextHopLaws::from_hit, crate::specs::NextHopLaws::from_miss))]
 pub fn steady_slot_to(nexts: &[u8; 16], u: u8) -> usize
     ensures { result ≡ slot_to nexts.now u }
 {
@@ -75,6 +77,7 @@ pub fn steady_slot_to(nexts: &[u8; 16], u: u8) -> usize
 }
 
 // Whether a slot leads to the vertex u; what is no vertex is never led to.
+#[tactic(auto, using(crate::specs::NextHopLaws::leads_vertex, crate::specs::NextHopLaws::leads_other))]
 fn leads_to(nexts: &[u8; 16], u: u8) -> bool
     ensures { result ≡ leads_in nexts.now u }
 {
@@ -95,6 +98,7 @@ fn count_row(nexts: &[u8; 16]) -> u16
 }
 
 // Whether v listens to u; what is no vertex never does.
+#[tactic(auto, using(crate::specs::NextHopLaws::hears_vertex, crate::specs::NextHopLaws::hears_other))]
 pub fn is_listening(nexts: &[[u8; 16]; 64], v: u8, u: u8) -> bool
     ensures { result ≡ hears_from nexts.now v u }
 {

@@ -45,7 +45,7 @@ impl<'a> Entry<'a> {
         any_outside(0, LAST_VERTEX, path_at(self.table, self.i))
     }
 
-    // Refusal 6: the unused bytes stand from the path's end to byte 14.
+    // Refusal 6: the unused bytes stand from the path's end to byte 14; `any_outside`, since `filler_bad` says it so.
     fn filler_bad(self) -> bool
         requires { hops_at self.table.now self.i ≤ 12 }
         ensures { result ≡ filler_bad (record_at self.entry.table.now self.entry.i) }
@@ -55,7 +55,7 @@ impl<'a> Entry<'a> {
         if any_outside(FILLER, FILLER, &r[from..LAST_BYTE]) {
             return true;
         }
-        is_outside(0, 0, r[LAST_BYTE])
+        r[LAST_BYTE] != 0
     }
 
     // Refusal 7.
@@ -70,7 +70,7 @@ impl<'a> Entry<'a> {
         ensures { result ≡ last_bad (record_at self.entry.table.now self.entry.i) }
     {
         let last = usize::from(hops_at(self.table, self.i)) + 2;
-        is_outside(0, 0, value_or(record_at(self.table, self.i), last, 0))
+        value_or(record_at(self.table, self.i), last, 0) != 0
     }
 
     // Refusal 9.

@@ -20,6 +20,7 @@ const HOPS: usize = 1;
 const PATH: usize = 2;
 
 // The 16 bytes of record i, or what the table still has of them.
+#[tactic(auto, using(laws::specs::TableLaws::record_past, laws::specs::TableLaws::record_part))]
 pub fn record_at(table: &[u8], i: usize) -> &[u8]
     ensures { result.now ≡ record_at table.now i }
 {
@@ -32,18 +33,21 @@ pub fn record_at(table: &[u8], i: usize) -> &[u8]
     &table[at..end]
 }
 
+#[tactic(auto, unfolding(rules::specs::Table::rank_of))]
 pub fn rank_at(table: &[u8], i: usize) -> u8
     ensures { result ≡ rank_at table.now i }
 {
     value_or(record_at(table, i), RANK, 0)
 }
 
+#[tactic(auto, unfolding(rules::specs::Table::hops_of))]
 pub fn hops_at(table: &[u8], i: usize) -> u8
     ensures { result ≡ hops_at table.now i }
 {
     value_or(record_at(table, i), HOPS, 0)
 }
 
+#[tactic(auto, unfolding(rules::specs::Table::owner_of))]
 pub fn owner_at(table: &[u8], i: usize) -> u8
     ensures { result ≡ owner_at table.now i }
 {
@@ -51,6 +55,7 @@ pub fn owner_at(table: &[u8], i: usize) -> u8
 }
 
 // The path of record i, whatever its hops say: it ends with the record at the latest.
+#[tactic(auto, using(laws::specs::TableLaws::path_short, laws::specs::TableLaws::path_part))]
 pub fn path_at(table: &[u8], i: usize) -> &[u8]
     ensures { result.now ≡ path_at table.now i }
 {
@@ -64,6 +69,7 @@ pub fn path_at(table: &[u8], i: usize) -> &[u8]
 }
 
 // The second vertex of record i, 0 where there is none.
+#[tactic(auto, unfolding(rules::specs::Table::next_hop))]
 pub fn next_at(table: &[u8], i: usize) -> u8
     ensures { result ≡ next_hop (path_at table.now i) }
 {

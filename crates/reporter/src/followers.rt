@@ -1,13 +1,14 @@
 // Who is stuck, whom each stuck vertex follows, and the ring among them.
-ghost use Rattle.std.specs.Prelude.{◌≡◌, ◌<◌, length};
+ghost use Rattle.std.specs.Prelude.{◌≡◌, length};
 ghost use Rattle.ring.specs.Ring.{Ringed};
 ghost use Rattle.reporter.specs.Showing.{next_numbers, shown_next, stuck_marks};
 
 use crate::counts::{STUCK, is_between};
 use record_fields::next_at;
 use ring::find_ring;
+use slices::value_or;
 use std::array;
-use table_facts::VERTICES;
+use table_facts::{NO_RECORD, VERTICES};
 
 // Which vertices are stuck; 0 never is.
 fn stuck_in(marks: &[u8; VERTICES]) -> [bool; VERTICES]
@@ -19,11 +20,11 @@ fn stuck_in(marks: &[u8; VERTICES]) -> [bool; VERTICES]
 // Whom v follows where it is stuck: the next hop of the record that it shows; 0 for any other.
 #[tactic(auto, unfolding(crate::specs::Showing::shown_next, crate::specs::Showing::next_from))]
 fn next_of(table: &[u8], stuck: &[bool; VERTICES], shown: &[u16; VERTICES], v: usize) -> u8
-    requires { v < 64 }
     ensures { result ≡ shown_next table.now stuck.now shown.now v }
 {
-    if stuck[v] {
-        next_at(table, usize::from(shown[v]))
+    if value_or(stuck, v, false) {
+        let i = value_or(shown, v, NO_RECORD);
+        next_at(table, usize::from(i))
     } else {
         0
     }
