@@ -8,7 +8,7 @@ use whole_input::read_full;
 // One byte more than the longest table.
 const INPUT_BYTES: usize = 16129;
 
-// So many bytes hold every text of a check.
+// So many bytes hold every text of a check: a buffer of a fixed size and the length laid, since there is no heap here.
 const TEXT_BYTES: usize = 16384;
 
 // The table's check, printed.

@@ -36,7 +36,7 @@ impl From<u8> for Start {
     }
 }
 
-// What a line shows below its title.
+// What a line shows below its title. A plan has these letters and no others, so a `match` is over them, and no closure.
 #[derive(Clone, Copy, Debug, PartialEq, Eq)]
 enum Shows {
     Check,

@@ -14,7 +14,8 @@ use published_lines::{part, title_text};
 use run_text::run_from;
 use table_facts::PAIRS;
 
-// So many bytes hold every text that the published program shows.
+// So many bytes hold every text that the published program shows: a buffer of a fixed size and the length laid, since
+// there is no heap here.
 const TEXT_BYTES: usize = 2048;
 
 fn show<P: Print>(rt: &P, text: &[u8]) {

@@ -13,7 +13,7 @@ const TABLE_BYTES: usize = 16129;
 // One byte more than the longest schedule.
 const SCHEDULE_BYTES: usize = 32769;
 
-// So many bytes hold every text of a run.
+// So many bytes hold every text of a run: a buffer of a fixed size and the length laid, since there is no heap here.
 const TEXT_BYTES: usize = 8192;
 
 // So many bytes hold every file name.
