@@ -11,7 +11,10 @@ use answer::{Answer, Verdict};
 use row_lines::put_rows;
 use text_writing::Writer;
 
-// `verdict stuck settled 1 stuck 2 stages 1 longest 2`, with the verdict's name.
+// `verdict stuck settled 1 stuck 2 stages 1 longest 2`, with the verdict's name. Inlined, so that the name is a
+// constant where it is copied: of any other the copy is a call of `memmove`, which an archive for C would have to be
+// given.
+#[inline(always)]
 fn put_verdict(writer: &mut Writer<'_>, name: &[u8], answer: Answer)
     ensures { Writes (verdict_line name.now (numbers answer)) writer.old writer.new }
 {

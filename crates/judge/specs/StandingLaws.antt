@@ -1,12 +1,10 @@
 -- Laws of the standing, as the code's steps need them.
-use Rattle.std.specs.Prelude.{◌≡◌, ◌≢◌, Option, Some, None, position, not, Bool, true, false, ◌&&◌, ℕ, suc, ◌+◌, ◌-◌, ◌<◌, ◌≤◌, length, get_or, take, drop}
-use Rattle.std.specs.List.{position_from, find, take_while}
+use Rattle.std.specs.Prelude.{◌≡◌, ◌≢◌, Option, Some, None, not, Bool, true, false, ◌&&◌, ℕ, suc, ◌+◌, ◌-◌, ◌<◌, ◌≤◌, length, get_or, take, drop}
+use Rattle.std.specs.List.{find, take_while}
 use Rattle.std.specs.Option.{unwrap_or}
-use Rattle.std.proofs.lemmas.Option.{none-some, same_Some}
-use Rattle.std.proofs.lemmas.Iterator.Adapters.{position_from-zero}
 use Rattle.std.proofs.lemmas.List.Sums.{take_while-cons}
 use Rattle.std.proofs.Math.Path.{refl, sym, ap}
-use Rattle.std.proofs.Common.{◌∙◌, arith, eq-eqb, ne_eqb}
+use Rattle.std.proofs.Common.{◌∙◌, arith, drop_of_length-le, drop-cons, add-one, eq-eqb, ne_eqb}
 use mathlib.Core.List.{List, [], ◌∷◌}
 use Rattle.std.proofs.Math.Option.{none, some}
 use Rattle.std.proofs.Math.ListN.{set}
@@ -17,7 +15,7 @@ use Rattle.lists.specs.Search.{same}
 use Rattle.lists.specs.Renew.{renewed}
 use Rattle.lists.specs.RenewLaws.{renewed_none, renewed_keep, renewed_store, renewed_all}
 use Rattle.rules.specs.Table.{Path, path_at}
-use Rattle.rules.specs.Greedy.{compatible}
+use Rattle.rules.specs.Greedy.{Settled, compatible}
 use Rattle.laws.specs.GreedyLaws.{compatible_waiting, compatible_settled}
 use Rattle.judge.specs.Staged.{Staged}
 use Rattle.judge.specs.Standing.{is_in, held_path, settled_by, first_record, best_record, first_compatible, record_shown, enters_with, enters_by, is_judged, shown_after, mark_after}
@@ -38,6 +36,19 @@ holds_same t a b v e =
     (λ q. holds_origin t a v q ∙ sym (holds_origin t b v q))
     (λ q. holds_record t a v q ∙ ap (path_at t) e ∙ sym (holds_record t b v q))
 
+-- the walk along a path to its first settled vertex
+module _ (S : Settled) where
+  drop_head : (p : Path) (k : ℕ) (q : Path) → k < length p → S (get_or p k 0) ≡ some q → compatible S (drop k p) ≡ same (drop k p) q
+  drop_head p k q h e = rw (drop-cons p k 0 h) (compatible_settled S (get_or p k 0) (drop (suc k) p) q e)
+
+  drop_tail : (p : Path) (k : ℕ) → k < length p → S (get_or p k 0) ≡ none → compatible S (drop k p) ≡ compatible S (drop (suc k) p)
+  drop_tail p k h e = rw (drop-cons p k 0 h) (compatible_waiting S (get_or p k 0) (drop (suc k) p) e)
+
+  -- nothing is compatible with no vertex
+  pub compatible_nil : compatible S [] ≡ false
+  unfolding compatible
+  compatible_nil = refl
+
 -- what the mark says of what is settled
 module _ (t marks shown : List ℕ) (v : ℕ) where
   pub in_settled : is_in marks v ≡ true → settled_by t marks shown v ≡ some (held_path t shown v)
@@ -55,39 +66,22 @@ settled_holds t marks shown v p e =
     (λ q. let z : some (held_path t shown v) ≡ some p = sym (in_settled t marks shown v q) ∙ e in cc)
     (λ q. absurd (none≢some (out_unsettled t marks shown v q) e))
 
--- a path is compatible by its first settled vertex, or not at all
-module _ (t marks shown : List ℕ) where
-  hit_from : (p : Path) (i k : ℕ)
-      → position_from (is_in marks) i p ≡ Some k
-      → (i ≤ k) × (compatible (settled_by t marks shown) p ≡ same (drop (k - i) p) (held_path t shown (get_or p (k - i) 0)))
-  hit_from [] i k e = absurd (none-some k e)
-  hit_from (v ∷ p) i k e =
-      by_test (is_in marks v)
-      (λ q. let z : i ≡ k = same_Some i k (rw q at e) in
-      let y : k - i ≡ 0 = omega arith in
-      (omega arith, rw y (compatible_settled (settled_by t marks shown) v p _ (in_settled t marks shown v q))))
-      (λ q. let r = hit_from p (i + 1) k (rw q at e) in
-      let y : k - i ≡ suc (k - (i + 1)) = omega (arith, r.0) in
-      (omega (arith, r.0), rw y (compatible_waiting (settled_by t marks shown) v p (out_unsettled t marks shown v q) ∙ r.1)))
+-- a walk along a path that has come to k, with the answer still to be found from there on; b says whether the vertex there is settled
+module _ (t marks shown p : List ℕ) (k : ℕ) (come : compatible (settled_by t marks shown) (drop k p) ≡ compatible (settled_by t marks shown) p) where
+  module _ (h : k < length p) {b : Bool} (look : b ≡ is_in marks (get_or p k 0)) where
+    pub compatible_hit : {x : Bool}
+        → b ≡ true
+        → x ≡ same (take (length p - k) (drop k p)) (held_path t shown (get_or p k 0))
+        → x ≡ compatible (settled_by t marks shown) p
+    compatible_hit e s =
+        s ∙ rw part_to_end (sym (drop_head (settled_by t marks shown) p k _ h (in_settled t marks shown (get_or p k 0) (sym look ∙ e)))) ∙ come
 
-  pub compatible_hit : (p : Path) (k : ℕ) {x : Bool}
-      → position (is_in marks) p ≡ Some k
-      → x ≡ same (take (length p - k) (drop k p)) (held_path t shown (get_or p k 0))
-      → x ≡ compatible (settled_by t marks shown) p
-  compatible_hit p k e s =
-      let whole : k - 0 ≡ k = omega arith in
-      s ∙ rw part_to_end (sym (rw whole at (hit_from p 0 k (sym (position_from-zero (is_in marks) p) ∙ e)).1))
+    pub compatible_next : b ≡ false → compatible (settled_by t marks shown) (drop (k + 1) p) ≡ compatible (settled_by t marks shown) p
+    compatible_next e =
+        rw add-one (sym (drop_tail (settled_by t marks shown) p k h (out_unsettled t marks shown (get_or p k 0) (sym look ∙ e))) ∙ come)
 
-  miss_from : (p : Path) (i : ℕ) → position_from (is_in marks) i p ≡ None → compatible (settled_by t marks shown) p ≡ false
-  unfolding compatible
-  miss_from [] i e = refl
-  miss_from (v ∷ p) i e =
-      by_test (is_in marks v)
-      (λ q. absurd (none-some i (sym (rw q at e))))
-      (λ q. compatible_waiting (settled_by t marks shown) v p (out_unsettled t marks shown v q) ∙ miss_from p (i + 1) (rw q at e))
-
-  pub compatible_miss : (p : Path) → position (is_in marks) p ≡ None → false ≡ compatible (settled_by t marks shown) p
-  compatible_miss p e = sym (miss_from p 0 (sym (position_from-zero (is_in marks) p) ∙ e))
+  pub compatible_end : length p ≤ k → false ≡ compatible (settled_by t marks shown) p
+  compatible_end h = sym (compatible_nil (settled_by t marks shown)) ∙ rw (drop_of_length-le p h) at come
 
 -- the record that a number shows
 
@@ -126,6 +120,20 @@ module _ (test : ℕ → Bool) where
   unfolding first_record
   record_nil = refl
 
+  module _ (l : List ℕ) (k : ℕ) (come : first_record test (drop k l) ≡ first_record test l) where
+    module _ (h : k < length l) where
+      pub records_end : get_or l k 0 ≡ 65535 → 65535 ≡ first_record test l
+      records_end e = sym (rw (drop-cons l k 0 h, e) (record_empty (drop (suc k) l))) ∙ come
+
+      pub records_hit : get_or l k 0 ≢ 65535 → test (get_or l k 0) ≡ true → get_or l k 0 ≡ first_record test l
+      records_hit f e = sym (rw (drop-cons l k 0 h) (record_pass (get_or l k 0) (drop (suc k) l) f e)) ∙ come
+
+      pub records_next : get_or l k 0 ≢ 65535 → test (get_or l k 0) ≡ false → first_record test (drop (k + 1) l) ≡ first_record test l
+      records_next f e = rw add-one (sym (rw (drop-cons l k 0 h) (record_fail (get_or l k 0) (drop (suc k) l) f e)) ∙ come)
+
+    pub records_none : length l ≤ k → 65535 ≡ first_record test l
+    records_none h = sym record_nil ∙ rw (drop_of_length-le l h) at come
+
   -- it is the first that passes among those in front of the first empty slot
   record_found : (l : List ℕ) → find test (take_while (λ i. not (eqb i 65535)) l) ≡ record_shown (first_record test l)
   record_found [] = sym (ap record_shown record_nil ∙ shown_none)
@@ -139,6 +147,24 @@ module _ (test : ℕ → Bool) where
 pub best_shown : (t marks shown slots : List ℕ) → first_compatible t marks shown slots ≡ record_shown (best_record t marks shown slots)
 unfolding best_record
 best_shown t marks shown slots = record_found (λ i. compatible (settled_by t marks shown) (path_at t i)) slots
+
+-- what is judged through a record is its path
+pub look_compatible : (t marks shown p : List ℕ) (i n : ℕ) (b x : Bool)
+    → n ≡ i
+    → p ≡ path_at t n
+    → b ≡ compatible (settled_by t marks shown) p
+    → b ≡ x
+    → compatible (settled_by t marks shown) (path_at t i) ≡ x
+look_compatible t marks shown p i n b x e f g h =
+    ap (compatible (settled_by t marks shown)) (sym (f ∙ ap (path_at t) e)) ∙ sym g ∙ h
+
+-- so the record that a search comes to, or none, is what is found
+module _ (t marks shown slots : List ℕ) where
+  pub found_record : (i : ℕ) → i ≢ 65535 → i ≡ best_record t marks shown slots → Some i ≡ first_compatible t marks shown slots
+  found_record i f e = sym (best_shown t marks shown slots ∙ ap record_shown (sym e) ∙ shown_some i f)
+
+  pub found_none : 65535 ≡ best_record t marks shown slots → None ≡ first_compatible t marks shown slots
+  found_none e = sym (best_shown t marks shown slots ∙ ap record_shown (sym e) ∙ shown_none)
 
 -- a stage that has come to v: the marks and records below v are new
 pub record Judged (t : List ℕ) (slots : List (List ℕ)) (marks shown : List ℕ) (number v : ℕ) (next_marks next_shown : List ℕ) : Type 0 where

@@ -1,14 +1,16 @@
 // The compatibility judgement and one stage, for any bytes.
 #![tactic(auto)]
 
-ghost use Rattle.std.specs.Prelude.{◌≡◌, position};
+ghost use Rattle.std.specs.Prelude.{◌≡◌};
+ghost use Rattle.lists.specs.Search.{same};
 ghost use Rattle.rules.specs.Greedy.{compatible};
 ghost use Rattle.judge.specs.Standing.{is_in, held_path, settled_by, first_compatible, enters_by, is_judged};
 ghost use Rattle.judge.specs.Staged.{Staged};
 
 use record_fields::{next_at, path_at};
 use slices::{same_parts, value_or};
-use table_facts::{NO_RECORD, SLOTS, VERTICES};
+use table_facts::SLOTS;
+pub use table_facts::{NO_RECORD, VERTICES};
 
 // A mark below this one is the stage at which the vertex settled.
 pub const ABSENT: u8 = 254;
@@ -41,45 +43,43 @@ impl Standing {
         value_or(&self.marks, v, ABSENT) == WAITING
     }
 
-    // The path that a settled vertex holds; vertex 0 has (0), which no record is.
-    #[tactic(auto, unfolding(crate::specs::Standing::held_path))]
-    fn held_path<'a>(&self, table: &'a [u8], v: u8) -> &'a [u8]
-        ensures { result.now ≡ held_path table.now self.now.shown v }
+    // Whether the rest of a path equals the path that the settled vertex v holds; vertex 0 has (0), which no record is.
+    fn agrees(&self, table: &[u8], v: u8, rest: &[u8]) -> bool
+        ensures { result ≡ same rest.now (held_path table.now self.now.shown v) }
     {
         if v == 0 {
-            return b"\0";
+            return same_parts(rest, b"\0");
         }
         let i = value_or(&self.shown, usize::from(v), NO_RECORD);
-        path_at(table, usize::from(i))
+        same_parts(rest, path_at(table, usize::from(i)))
     }
 
-    // The place of a path's first settled vertex.
-    fn first_settled(&self, path: &[u8]) -> Option<usize>
-        ensures { result ≡ position (is_in self.now.marks) path.now }
-    {
-        path.iter().position(|v| self.is_settled(*v))
-    }
-
-    // Whether a path is compatible: only its first settled vertex decides.
+    // Whether a path is compatible: only its first settled vertex decides. Here and below a `for` that ends early and
+    // no chain, which cost the check of a table of short paths up to a half more instructions (docs/DESIGN-PASS.md).
     fn is_compatible(&self, table: &[u8], path: &[u8]) -> bool
         ensures { result ≡ compatible (settled_by table.now self.now.marks self.now.shown) path.now }
     {
-        let Some(hop) = self.first_settled(path) else {
-            return false;
-        };
-        same_parts(&path[hop..], self.held_path(table, path[hop]))
+        for (hop, v) in path.iter().enumerate() {
+            if self.is_settled(*v) {
+                return self.agrees(table, *v, &path[hop..]);
+            }
+        }
+        false
     }
 
     // The record of the best compatible path among a vertex's slots; the first empty slot ends the search.
-    fn best_record(&self, table: &[u8], slots: [u16; SLOTS]) -> Option<u16>
-        ensures { result ≡ first_compatible table.now self.now.marks self.now.shown slots }
+    fn best_record(&self, table: &[u8], slots: &[u16; SLOTS]) -> Option<u16>
+        ensures { result ≡ first_compatible table.now self.now.marks self.now.shown slots.now }
     {
-        let passes = |i: &u16| self.is_compatible(table, path_at(table, usize::from(*i)));
-        slots
-            .iter()
-            .copied()
-            .take_while(|i| *i != NO_RECORD)
-            .find(passes)
+        for i in slots {
+            if *i == NO_RECORD {
+                break;
+            }
+            if self.is_compatible(table, path_at(table, usize::from(*i))) {
+                return Some(*i);
+            }
+        }
+        None
     }
 
     // Whether a vertex with that best compatible path enters: it has none, or its next hop is settled.
@@ -106,7 +106,7 @@ pub fn stage(
     let mut after = before;
     for (v, best_first) in slots.iter().enumerate() {
         if before.is_judged(v) {
-            let best = before.best_record(table, *best_first);
+            let best = before.best_record(table, best_first);
             after.shown[v] = best.unwrap_or(NO_RECORD);
             if before.enters(table, best) {
                 after.marks[v] = number;

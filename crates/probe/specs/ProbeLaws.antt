@@ -10,7 +10,8 @@ use mir.Val.{bool_byte}
 use borrow.Author.Tests.{lt-ltb, le-ltb}
 use Rattle.lists.specs.Fill.{tabulate}
 use Rattle.lists.specs.Tests.{by_less}
-use Rattle.lists.specs.FillLaws.{tabulate_length, tabulate_at}
+use Rattle.lists.specs.FillLaws.{tabulate_length, tabulate_at, padded_length}
+use Rattle.rules.specs.Table.{slots_of}
 use Rattle.rules.specs.Refusals.{Refusal, refusal}
 use Rattle.laws.specs.Accepted.{told}
 use Rattle.answer.specs.declared.Refusal as answer
@@ -53,15 +54,27 @@ module _ (test : ℕ → Bool) (n i : ℕ) where
       (λ h. let out = get_or-eq_default (tabulate test n) false {n = i} (rw (tabulate_length test n) h) in
       rw (q, e, out) (mark_past h))
 
--- a slot, and what stands past the last vertex
-module _ (t : List ℕ) (v k : ℕ) (slots : List (List ℕ)) (built : slots ≡ slots_in t) where
-  pub slot_in : (row : List ℕ) → row ≡ get_or slots v [] → get_or row k 65535 ≡ slot_at t v k
-  unfolding slot_at
-  slot_in row e = rw (e, built)
+-- a slot, and what stands past the last vertex and past the last slot
+module _ (t : List ℕ) (v k : ℕ) where
+  slots_length : length (slots_in t) ≡ 64
+  unfolding slots_of
+  slots_length = tabulate_length _ 64
 
-  pub slot_no_vertex : length slots ≤ v → 65535 ≡ slot_at t v k
+  row_length : v < 64 → length (get_or (slots_in t) v []) ≡ 16
+  unfolding slots_of
+  row_length h = ap length (tabulate_at _ 64 v [] h) ∙ padded_length 65535 16 _
+
+  pub slot_in : (slots : List (List ℕ)) → slots ≡ slots_in t → (row : List ℕ) → row ≡ get_or slots v [] → get_or row k 65535 ≡ slot_at t v k
   unfolding slot_at
-  slot_no_vertex h = rw (get_or-eq_default (slots_in t) [] {n = v} (rw built at h))
+  slot_in slots built row e = rw (e, built)
+
+  pub slot_no_vertex : 64 ≤ v → 65535 ≡ slot_at t v k
+  unfolding slot_at
+  slot_no_vertex h = rw (get_or-eq_default (slots_in t) [] {n = v} (rw slots_length h))
+
+  pub slot_no_rank : v < 64 → 16 ≤ k → 65535 ≡ slot_at t v k
+  unfolding slot_at
+  slot_no_rank h l = sym (get_or-eq_default (get_or (slots_in t) v []) 65535 {n = k} (rw (row_length h) l))
 
 -- who listens, asked of the slots
 pub listens_told : (t : List ℕ) (pair : ℕ) (nexts : List (List ℕ))

@@ -17,7 +17,7 @@ use pairs::{is_listening, next_hops};
 use reader::read;
 use run_text::run_text;
 use slices::value_or;
-use table_facts::{NO_RECORD, PAIRS, VERTICES, longest_hops, present_in, slots_of};
+use table_facts::{NO_RECORD, PAIRS, SLOTS, VERTICES, longest_hops, present_in, slots_of};
 
 // 0 where the table is accepted, otherwise the refusal's number plus 256 times its place.
 #[unsafe(no_mangle)]
@@ -44,7 +44,11 @@ pub extern "C" fn probe_longest(table: &[u8]) -> u64
 pub extern "C" fn probe_present(table: &[u8], v: u64) -> u64
     ensures { result ≡ mark_of (present table.now) 64 v }
 {
-    u64::from(value_or(&present_in(table), v as usize, false))
+    let v = v as usize;
+    if VERTICES <= v {
+        return 0;
+    }
+    u64::from(value_or(&present_in(table), v, false))
 }
 
 // 1 where the pair, 64 times the listener plus the speaker, listens by the slots, which in an accepted table is where
@@ -66,11 +70,15 @@ pub extern "C" fn probe_listens(table: &[u8], pair: u64) -> u64
 pub extern "C" fn probe_slot(table: &[u8], v: u64, k: u64) -> u64
     ensures { result ≡ slot_at table.now v k }
 {
-    let slots = slots_of(table);
-    let Some(row) = slots.get(v as usize) else {
+    let (v, k) = (v as usize, k as usize);
+    if VERTICES <= v {
         return u64::from(NO_RECORD);
-    };
-    u64::from(value_or(row, k as usize, NO_RECORD))
+    }
+    if SLOTS <= k {
+        return u64::from(NO_RECORD);
+    }
+    let slots = slots_of(table);
+    u64::from(value_or(&slots[v], k, NO_RECORD))
 }
 
 // The check program's text, laid over the front of the lent text as far as it fits, and how many bytes that is.

@@ -45,7 +45,8 @@ impl<'a> Entry<'a> {
         any_outside(0, LAST_VERTEX, path_at(self.table, self.i))
     }
 
-    // Refusal 6: the unused bytes stand from the path's end to byte 14; `any_outside`, since `filler_bad` says it so.
+    // Refusal 6: the unused bytes stand from the path's end to byte 14; `any_outside` and `is_outside`, since
+    // `filler_bad` says it so.
     fn filler_bad(self) -> bool
         requires { hops_at self.table.now self.i ≤ 12 }
         ensures { result ≡ filler_bad (record_at self.entry.table.now self.entry.i) }
@@ -55,7 +56,7 @@ impl<'a> Entry<'a> {
         if any_outside(FILLER, FILLER, &r[from..LAST_BYTE]) {
             return true;
         }
-        r[LAST_BYTE] != 0
+        is_outside(0, 0, r[LAST_BYTE])
     }
 
     // Refusal 7.
@@ -70,7 +71,7 @@ impl<'a> Entry<'a> {
         ensures { result ≡ last_bad (record_at self.entry.table.now self.entry.i) }
     {
         let last = usize::from(hops_at(self.table, self.i)) + 2;
-        value_or(record_at(self.table, self.i), last, 0) != 0
+        is_outside(0, 0, value_or(record_at(self.table, self.i), last, 0))
     }
 
     // Refusal 9.
@@ -110,7 +111,9 @@ impl<'a> Entry<'a> {
     // The record as a table of its own: its 16 bytes are known to be there, so that the compiler drops the tests for
     // each field.
     fn alone(self) -> Entry<'a>
-        ensures { record_at result.table.now result.i ≡ record_at self.entry.table.now self.entry.i }
+        ensures bytes { result.table.now ≡ record_at self.entry.table.now self.entry.i }
+        ensures first { result.i ≡ 0 }
+        ensures record { record_at result.table.now result.i ≡ record_at self.entry.table.now self.entry.i }
     {
         let at = self.i * RECORD_BYTES;
         let end = at + RECORD_BYTES;

@@ -1,7 +1,7 @@
 -- Laws of the rows that marks and records show, as the code's steps need them.
 use Rattle.std.specs.Prelude.{◌≡◌, ◌≢◌, take, set}
 use Rattle.std.proofs.Math.Path.{refl, ap}
-use Rattle.std.proofs.Common.{◌∙◌, length-take, length-drop}
+use Rattle.std.proofs.Common.{◌∙◌, length-take, length-drop, length-append}
 use mathlib.Core.List.{List, [], ◌∷◌, ◌++◌, append-nil}
 use Prim.Native.Nat.{ℕ, suc, pred, ◌+◌, ◌-◌, ◌*◌, ◌<◌, ◌≤◌}
 use native.Mathlib.Omega.{arith}
@@ -9,7 +9,7 @@ use Rattle.std.proofs.Math.ListN.{length, get_or, drop, drop_of_length-le}
 use borrow.Author.Tests.{eq-eqb, ne_eqb}
 use Rattle.lists.specs.Fill.{blocks, padded}
 use Rattle.lists.specs.ListLaws.{get_or_within}
-use Rattle.lists.specs.RenewLaws.{block_first, block_more}
+use Rattle.lists.specs.RenewLaws.{block_first, block_length, block_more}
 use Rattle.lists.specs.Tests.{by_equal}
 use Rattle.rules.specs.Table.{record_at, hops_of, path_of, rank_at, path_at}
 use Rattle.rules.specs.Report.{row_bytes}
@@ -75,9 +75,13 @@ path_most t i =
 
 module _ (t marks shown rows : List ℕ) (long : length rows ≡ 1024) (ys : List ℕ) where
   -- the rows after the first
-  pub first_written : ys ≡ row_bytes 0 0 (0 ∷ []) → take 16 (ys ++ drop 16 rows) ≡ blocks (shown_row t marks shown) 1
+  pub first_written : ys ≡ row_bytes 0 0 (0 ∷ [])
+      → (length (ys ++ drop 16 rows) ≡ 1024) × (take 16 (ys ++ drop 16 rows) ≡ blocks (shown_row t marks shown) 1)
   first_written e =
-      block_first (shown_row t marks shown) 16 (shown_length t marks shown) rows ys (omega arith) (e ∙ shown_origin t marks shown)
+      let f = e ∙ shown_origin t marks shown in (
+        length-append ys (drop 16 rows) ∙ omega (arith, length-drop 16 rows, ap length f, shown_length t marks shown 0),
+        block_first (shown_row t marks shown) 16 (shown_length t marks shown) rows ys (omega arith) f,
+      )
 
   -- and after the next
   abbrev pub row_written : ℕ → List ℕ
@@ -87,9 +91,11 @@ module _ (t marks shown rows : List ℕ) (long : length rows ≡ 1024) (ys : Lis
       → v < 64
       → take (v * 16) rows ≡ blocks (shown_row t marks shown) v
       → ys ≡ shown_row t marks shown v
-      → take ((v + 1) * 16) (row_written (v * 16)) ≡ blocks (shown_row t marks shown) (v + 1)
-  next_written v h come e =
-      block_more (shown_row t marks shown) 16 (shown_length t marks shown) rows ys (v * 16) v (omega arith) e ((v + 1) * 16) (omega arith) come
+      → (length (row_written (v * 16)) ≡ 1024) × (take ((v + 1) * 16) (row_written (v * 16)) ≡ blocks (shown_row t marks shown) (v + 1))
+  next_written v h come e = (
+    block_length (shown_row t marks shown) 16 (shown_length t marks shown) rows ys (v * 16) v (omega arith) e ∙ long,
+    block_more (shown_row t marks shown) 16 (shown_length t marks shown) rows ys (v * 16) v (omega arith) e ((v + 1) * 16) (omega arith) come,
+  )
 
 -- by the room that there is, and the marks and records
 module _ (t marks shown before : List ℕ) where

@@ -24,8 +24,8 @@ pub(crate) fn count_between(low: u8, high: u8, marks: &[u8; VERTICES]) -> u8
     ensures { result ≡ count_between low high marks.now }
 {
     let mut count = 0;
-    for v in 0..VERTICES {
-        if is_between(low, high, marks, v) {
+    for v in 1..VERTICES {
+        if !is_outside(low, high, marks[v]) {
             count += 1;
         }
     }

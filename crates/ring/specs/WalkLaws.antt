@@ -1,12 +1,13 @@
 -- Laws of the walk: the place of a vertex, the closed part, and the lowest vertex of it.
-use Rattle.std.specs.Prelude.{◌≡◌, refl, ◌≢◌, true, false, None, Some, position, ℕ, suc, ◌+◌, ◌-◌, ◌<◌, ◌≤◌, length, set, ltb}
+use Rattle.std.specs.Prelude.{◌≡◌, refl, ◌≢◌, true, false, None, Some, position, ℕ, suc, ◌+◌, ◌-◌, ◌<◌, ◌≤◌, min, length, set, ltb, get_or}
 use Rattle.std.specs.List.{position_or_len}
 use Rattle.std.proofs.Math.Path.{sym}
-use Rattle.std.proofs.Common.{ap, ◌∙◌, not-suc-le-zero, drop_of_length-le, length-set, take_all, take-suc-set, add-one, eq-eqb, ne_eqb, eqb-true, ⊎_elim}
+use Rattle.std.proofs.Common.{ap, ◌∙◌, not-suc-le-zero, drop_of_length-le, length-set, length-append, length-take, length-drop, length-take-le, take_all, take_at, drop_at, take-suc-set, add-one, eq-eqb, ne_eqb, eqb-true, ⊎_elim}
 use Rattle.std.proofs.Math.Numerals.{one-add}
 use Rattle.std.proofs.lemmas.Option.{cond_some, none-some}
 use Rattle.std.proofs.lemmas.List.Recursion.{is_position_or_len}
-use mathlib.Core.List.{List, [], ◌∷◌, ◌++◌}
+use mathlib.Core.List.{List, [], ◌∷◌, ◌++◌, append-nil, reverse}
+use Rattle.std.proofs.lemmas.List.{length-reverse, reverse-append, reverse-reverse}
 use native.Mathlib.Omega.{arith}
 use borrow.Author.Tests.{ltb-true, lt-ltb, le-ltb}
 use Rattle.std.proofs.Math.ListN.{take, drop, replicate, length-replicate}
@@ -17,6 +18,7 @@ use Rattle.lists.specs.Tests.{by_test, by_equal, by_less, by_option, true≢, or
 use Rattle.lists.specs.Parts.{rest_of_first}
 use Rattle.lists.specs.ListLaws.{elem_cons, elem_nil, elem_at, elem_place}
 use Rattle.lists.specs.Fill.{padded}
+use Rattle.lists.specs.FillLaws.{padded_length, padded_append, padded_tabulate, tabulate_take}
 use Rattle.rules.specs.Greedy.{from_vertex, before_vertex, closed_part, lowest_of, turned}
 use Rattle.ring.specs.Ring.{vertices_in, IsLeast}
 
@@ -192,7 +194,7 @@ lowest_missing l e =
 
 -- the closed part turned to its lowest vertex
 module _ (l : List ℕ) where
-  turned_is : turned l ≡ drop (place_in (lowest_of l) l) l ++ take (place_in (lowest_of l) l) l
+  pub turned_is : turned l ≡ drop (place_in (lowest_of l) l) l ++ take (place_in (lowest_of l) l) l
   unfolding turned
   turned_is = rw (from_is (lowest_of l) l) (ap (λ (m : List ℕ). drop (place_in (lowest_of l) l) l ++ m) (before_is (lowest_of l) l))
 
@@ -203,6 +205,64 @@ module _ (l : List ℕ) where
   turned_same e =
       let past = place_missed (lowest_of l) l e in
       sym (turned_is ∙ rw (drop_of_length-le l past) (take_all _ l past))
+
+-- three reversals turn a list: of the part in front of k, of the part from k on, and of the whole
+module _ (l : List ℕ) (k : ℕ) (within : k < length l) where
+  abbrev front_reversed : List ℕ
+  front_reversed = reverse (take k l) ++ drop k l
+
+  pub reversed_thrice : reverse (take k front_reversed
+      ++ (reverse (take (length front_reversed - k) (drop k front_reversed))
+      ++ drop (length front_reversed - k) (drop k front_reversed)))
+      ≡ drop k l ++ take k l
+  reversed_thrice =
+      let front : length (reverse (take k l)) ≡ k = length-reverse (take k l) ∙ length-take-le k l (omega arith) in
+      let whole : length front_reversed ≡ length l
+      = length-append (reverse (take k l)) (drop k l) ∙ omega (arith, front, length-drop k l) in
+      let head : take k front_reversed ≡ reverse (take k l) = take_at (reverse (take k l)) (drop k l) k front in
+      let tail : drop k front_reversed ≡ drop k l = drop_at (reverse (take k l)) (drop k l) k front in
+      let all : take (length l - k) (drop k l) ≡ drop k l = take_all (length l - k) (drop k l) (omega (arith, length-drop k l)) in
+      let past : drop (length l - k) (drop k l) ≡ []
+      = drop_of_length-le (drop k l) {i = length l - k} (omega (arith, length-drop k l)) in
+      let turned_back : reverse (reverse (take k l) ++ reverse (drop k l)) ≡ drop k l ++ take k l
+      = reverse-append (reverse (take k l)) (reverse (drop k l)) ∙ rw (reverse-reverse (drop k l), reverse-reverse (take k l)) in
+      rw (whole, head, tail, all, past, append-nil) turned_back
+
+-- two lists end to end written to a buffer: first the one, and behind it, from `done` on, the other
+module _ (buffer a b : List ℕ) (done : ℕ) (first second : List ℕ) where
+  abbrev once : List ℕ
+  once = first ++ drop done buffer
+
+  pub both_written : done ≡ min (length a) (length buffer)
+      → first ≡ padded (length (take done buffer)) 255 a
+      → second ≡ padded (length (take (length once - done) (drop done once))) 255 b
+      → take done once ++ (second ++ drop (length once - done) (drop done once)) ≡ padded (length buffer) 255 (a ++ b)
+  both_written q e f =
+      let n = length buffer in
+      let front : length (take done buffer) ≡ done = length-take-le done buffer (omega arith) in
+      let long : length first ≡ done = ap length e ∙ padded_length 255 _ _ ∙ front in
+      let head : take done once ≡ first = take_at first (drop done buffer) done long in
+      let rest : drop done once ≡ drop done buffer = drop_at first (drop done buffer) done long in
+      let whole : length once ≡ n = length-append first (drop done buffer) ∙ omega (arith, length-drop done buffer) in
+      let count : length (take (n - done) (drop done buffer)) ≡ n - done
+      = length-take (n - done) (drop done buffer) ∙ omega (arith, length-drop done buffer) in
+      let past : drop (n - done) (drop done buffer) ≡ []
+      = drop_of_length-le (drop done buffer) {i = n - done} (omega (arith, length-drop done buffer)) in
+      let written : first ≡ take done (padded n 255 a)
+      = e ∙ rw (front, padded_tabulate 255 done a, padded_tabulate 255 n a) (sym (tabulate_take (λ i. get_or a i 255) n done (omega arith))) in
+      let after : second ≡ padded (n - done) 255 b = f ∙ rw (rest, whole, count) in
+      rw (head, rest, whole, past, append-nil, written, after) (padded_append 255 n a b done q)
+
+-- a list, then the filler alone
+pub front_written : (buffer bytes : List ℕ) (done : ℕ) (first second : List ℕ)
+    → done ≡ min (length bytes) (length buffer)
+    → first ≡ padded (length (take done buffer)) 255 bytes
+    → second ≡ padded (length (take (length (first ++ drop done buffer) - done) (drop done (first ++ drop done buffer)))) 255 []
+    → take done (first ++ drop done buffer)
+    ++ (second ++ drop (length (first ++ drop done buffer) - done) (drop done (first ++ drop done buffer)))
+    ≡ padded (length buffer) 255 bytes
+front_written buffer bytes done first second q e f =
+    both_written buffer bytes [] done first second q e f ∙ ap (padded (length buffer) 255) (append-nil bytes)
 
 -- nothing in front of the filler
 pub padded_none : (x n : ℕ) → padded n x [] ≡ replicate n x

@@ -65,12 +65,15 @@ fn lowest_place(part: &[u8]) -> Option<usize>
     place_of(low, part)
 }
 
-// Turns the closed part to its lowest vertex.
+// Turns the closed part to its lowest vertex. By three reversals: the library's `rotate_left` keeps 4,096 bytes of room
+// on the stack, and where one vertex moves it calls `memmove`, which the archive for C asks of nobody otherwise.
 fn turn(part: &mut [u8])
     ensures { part.new ≡ turned part.old }
 {
     if let Some(k) = lowest_place(part) {
-        part.rotate_left(k);
+        part[..k].reverse();
+        part[k..].reverse();
+        part.reverse();
     }
 }
 
@@ -79,6 +82,15 @@ pub fn clear(part: &mut [u8])
     ensures { part.new ≡ padded (length part.old) 255 [] }
 {
     part.fill(FILLER);
+}
+
+// Fills with the bytes, then 255: the filler is no question at each byte, since a ring is mostly filler.
+fn fill_front(part: &mut [u8], bytes: &[u8])
+    ensures { part.new ≡ padded (length part.old) 255 bytes.now }
+{
+    let done = bytes.len().min(part.len());
+    fill_padded(&mut part[..done], bytes);
+    clear(&mut part[done..]);
 }
 
 // The ring, then 255, and its length.
@@ -92,6 +104,6 @@ pub fn find_ring(stuck: &[bool], next: &[u8], ring: &mut [u8]) -> u8
     let mut seen = [FILLER; 65];
     let closed = walk(next, start, &mut seen);
     turn(closed);
-    fill_padded(ring, closed);
+    fill_front(ring, closed);
     closed.len() as u8
 }

@@ -25,9 +25,8 @@ pub(crate) fn work(
     ensures { Followed (run (paths_of table.now) heard.old (pairs_in schedule.now))
         result heard.new sums.new }
 {
-    let nexts = &admitted.nexts;
     let asked = asked_bytes(table);
-    let mut choices = choice_bytes(nexts, &asked, heard);
+    let mut choices = choice_bytes(&admitted.nexts, &asked, heard);
     let mut counts = Counts::default();
     sums.fill(0);
     for (i, bytes) in schedule.chunks_exact(2).enumerate() {
@@ -35,16 +34,15 @@ pub(crate) fn work(
             listener: bytes[0],
             speaker: bytes[1],
         };
-        let number = i as u32 + 1;
         counts = hear_pair(
-            nexts,
+            &admitted.nexts,
             &asked,
             heard,
             &mut choices,
             sums,
             counts,
             pair,
-            number,
+            i as u32 + 1,
         );
     }
     RunAnswer {

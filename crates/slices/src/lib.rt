@@ -75,12 +75,13 @@ pub fn mark_all(marks: &mut [bool], path: &[u8])
     }
 }
 
-// Fills the part with the bytes, then 255; bytes past its end are left out. Place by place: with a copy and a fill by the
-// library, two calls for each row, a check of the empty table took 6,278 instructions, and so 4,237.
+// Fills the part with the bytes, then 255; bytes past its end are left out. Place by place and by number: with a copy
+// and a fill by the library, two calls for each row, a check took some 2,000 instructions more, and by `iter_mut` with
+// `enumerate` some 1,000.
 pub fn fill_padded(part: &mut [u8], bytes: &[u8])
     ensures { part.new ≡ padded (length part.old) 255 bytes.now }
 {
-    for (at, place) in part.iter_mut().enumerate() {
-        *place = value_or(bytes, at, 255);
+    for at in 0..part.len() {
+        part[at] = value_or(bytes, at, 255);
     }
 }

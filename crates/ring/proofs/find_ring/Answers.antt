@@ -7,4 +7,4 @@ pub returns-in_default : goal.returns-in_default
 returns-in_default c = writes_none _ _ _ c.in_default.ensures c.clear.ensures
 
 pub returns : goal.returns
-returns c = writes_ring _ _ _ c.in-Some.start c.in-Some.ensures c.walk-closed.ensures.part c.turn.ensures c.fill_padded.ensures
+returns c = writes_ring _ _ _ c.in-Some.start c.in-Some.ensures c.walk-closed.ensures.part c.turn.ensures c.fill_front.ensures

@@ -1,13 +1,16 @@
--- `judge::Standing::is_compatible` meets its contract: the path's first settled vertex decides.
+-- `judge::Standing::is_compatible` meets its contract: what is left of the path from that hop on tells the answer.
 -- Assumes nothing.
-use Rattle.std.proofs.Common.{sym, ◌∙◌, ap}
-use Rattle.lists.specs.Search.{same}
-use Rattle.judge.specs.StandingLaws.{compatible_hit, compatible_miss}
+use Rattle.judge.specs.StandingLaws.{compatible_hit, compatible_next, compatible_end}
 use Rattle.judge.proofs.Standing.is_compatible.Goals as goal
 
-pub returns-in_default : goal.returns-in_default
-returns-in_default c = compatible_miss _ _ _ _ (sym c.first_settled.ensures ∙ c.in_default.is)
+pub returns-then-is_settled : goal.returns-then-is_settled
+returns-then-is_settled c =
+    compatible_hit _ _ _ _ _ c.loop-hop.invariant c.loop-hop-test.true c.is_settled.ensures c.if-is_settled.true
+    c.agrees.ensures
+
+pub loop-hop-preserved : goal.loop-hop-preserved
+loop-hop-preserved c =
+    compatible_next _ _ _ _ _ c.loop-hop.invariant c.loop-hop-test.true c.is_settled.ensures c.if-is_settled.false
 
 pub returns : goal.returns
-returns c =
-    compatible_hit _ _ _ _ c.in-Some.hop (sym c.first_settled.ensures ∙ c.in-Some.is) (c.same_parts.ensures ∙ ap (same _) c.held_path.ensures)
+returns c = compatible_end _ _ _ _ _ c.loop-hop.invariant c.loop-hop-test.false

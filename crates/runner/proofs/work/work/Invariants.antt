@@ -11,7 +11,7 @@ invariant-loop-i l =
     let i = l.i-iterator.count in
     record {
       pairs : PairsLeft l.schedule pairs.rest.now pairs.size i;
-      ready : Ready l.table l.fn.heard l.schedule l.nexts l.admitted.rounds;
+      ready : Ready l.table l.fn.heard l.schedule l.admitted.nexts l.admitted.rounds;
       asks : Asks (paths_of l.table) l.asked;
       going : Going l.table l.fn.heard l.schedule i l.heard l.choices l.sums l.counts.ups l.counts.downs l.counts.last;
     }

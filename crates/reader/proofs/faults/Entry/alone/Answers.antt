@@ -21,5 +21,8 @@ slice_bounds-result-end c = omega arith
 pub invariant_of-result : goal.invariant_of-result
 invariant_of-result c = record { there = alone_there _ _ (alone_part _ _ _ refl) c.args.self.there }
 
-pub returns : goal.returns
-returns c = alone_record _ _ (alone_part _ _ _ refl)
+pub returns-clause-bytes : goal.returns-clause-bytes
+returns-clause-bytes c = alone_part _ _ _ refl
+
+pub returns-clause-record : goal.returns-clause-record
+returns-clause-record c = alone_record _ _ (alone_part _ _ _ refl)

@@ -10,7 +10,7 @@ filler_bad-requires c = hops_small _ _ _ c.hops_bad.ensures c.if-hops_bad.false
 
 pub path_bad-requires : goal.path_bad-requires
 path_bad-requires c = (
-  hops_small _ _ _ (c.hops_bad.ensures ∙ ap hops_bad c.alone-alone.ensures) c.if-hops_bad.false,
+  hops_small _ _ _ (c.hops_bad.ensures ∙ ap hops_bad c.alone-alone.ensures.record) c.if-hops_bad.false,
   orderly_more _ _ c.requires
       (sym c.owner_bad.ensures ∙ c.if-owner_bad.false)
       (sym c.rank_bad.ensures ∙ c.if-rank_bad.false),

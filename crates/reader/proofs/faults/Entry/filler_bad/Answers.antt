@@ -4,7 +4,6 @@ use mathlib.Core.Path.{ap, ◌∙◌}
 use native.Mathlib.Omega.{arith}
 use lib.ListN.{length}
 use Rattle.laws.specs.TableLaws.{record_length, filler_hit, filler_rest}
-use Rattle.reader.specs.FaultLaws.{other_than_0}
 use Rattle.reader.proofs.faults.Entry.filler_bad.Goals as goal
 
 pub slice_bounds-any_outside-end : goal.slice_bounds-any_outside-end
@@ -20,4 +19,4 @@ bounds-r-15 c = omega (arith, ap length c.record_at-r.ensures, record_length _ _
 pub returns : goal.returns
 returns c =
     filler_rest c.record_at-r.ensures (c.from-from.ensures ∙ c.hops_at.ensures) c.any_outside.ensures
-    c.if-any_outside.false (other_than_0 _)
+    c.if-any_outside.false c.is_outside.ensures
